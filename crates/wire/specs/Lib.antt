@@ -1,0 +1,3 @@
+-- What the checksum and the frame are.
+pub mod Checksum
+pub mod Frame
