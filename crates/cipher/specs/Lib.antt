@@ -1,0 +1,11 @@
+pub mod Bytes
+pub mod Field
+pub mod Aes
+pub mod Columns
+pub mod Blocks
+pub mod Cipher
+pub mod Sealing
+pub mod Ccm
+pub mod Ghash
+pub mod Horner
+pub mod Gcm
