@@ -1,4 +1,8 @@
 // pack: seals one packet into its frame, prints the frame, and opens it again.
+ghost use mathlib.Core.Bool.{false};
+ghost use mathlib.Core.Path.{_≡_};
+ghost use Rattle.std.specs.Results.{isOk};
+
 mod arguments;
 mod report;
 mod usage;
@@ -23,7 +27,9 @@ use usage::Form;
 use usage::FormDisplay;
 
 // Says on standard error what is malformed, and how the program is used.
-fn malformed(rt: &LibcRuntime, form: Form, argument: Argument) -> Result<(), AnyError> {
+fn malformed(rt: &LibcRuntime, form: Form, argument: Argument) -> Result<(), AnyError>
+    ensures { λ r. ⌜ isOk r ≡ false ⌝ }
+{
     eprintln!(rt, "malformed: {argument}; usage: {form}")?;
     Err("malformed".into())
 }

@@ -1,7 +1,9 @@
 // Packs, prints what was packed and the frame, opens the frame again and says so.
-ghost use mathlib.Core.Bool.{true};
+ghost use mathlib.Core.Bool.{true, false};
 ghost use mathlib.Core.Path.{_≡_};
+ghost use Rattle.std.specs.Results.{isOk};
 ghost use Rattle.std.specs.declared.option.Option.the-variants.{Some};
+ghost use Rattle.pack.specs.Report.{Packs-data, Packs-key, Opens-frame};
 use crate::arguments::DataArguments;
 use crate::arguments::KeyArguments;
 use crate::arguments::ModeDisplay;
@@ -38,7 +40,9 @@ fn show<C: PacketCipher>(
     iv: &[u8; 16],
     frame: &[u8],
     contents: &[u8],
-) -> Result<(), AnyError> {
+) -> Result<(), AnyError>
+    ensures { λ r. ⌜ (isOk r ≡ true → Opens-frame (C·PacketCipher .cipher) (now (key .entry)) (now (iv .entry)) (now (frame .entry)) (now (contents .entry))) ⌝ }
+{
     let lines = HexLines { bytes: frame };
     println!(rt, "{lines}")?;
     let n = frame.len();
@@ -50,17 +54,22 @@ fn show<C: PacketCipher>(
     Ok(())
 }
 
-fn refused(rt: &LibcRuntime, fault: Fault) -> Result<(), AnyError> {
+// Prints a refusal.
+fn refused(rt: &LibcRuntime, fault: Fault) -> Result<(), AnyError>
+    ensures { λ r. ⌜ isOk r ≡ false ⌝ }
+{
     println!(rt, "refused: {fault}")?;
     Err("refused".into())
 }
 
-// Packs a data packet and prints its frame.
+// Packs a data packet and prints its frame; an error where a check refuses it.
 pub fn report_data<C: PacketCipher>(
     rt: &LibcRuntime,
     a: &DataArguments,
     bytes: &[u8],
-) -> Result<(), AnyError> {
+) -> Result<(), AnyError>
+    ensures { λ r. ⌜ (isOk r ≡ true → Packs-data (C·PacketCipher .cipher) (now (a .entry)) (bytes .entry)) ⌝ }
+{
     let heap = rt.alloc();
     let packet = DataPacket {
         version: a.version,
@@ -90,8 +99,10 @@ pub fn report_data<C: PacketCipher>(
     show::<C>(rt, &a.key, &a.iv, &out, &contents)
 }
 
-// Packs a key packet and prints its frame.
-pub fn report_key<C: PacketCipher>(rt: &LibcRuntime, a: &KeyArguments) -> Result<(), AnyError> {
+// Packs a key packet and prints its frame; an error where a check refuses it.
+pub fn report_key<C: PacketCipher>(rt: &LibcRuntime, a: &KeyArguments) -> Result<(), AnyError>
+    ensures { λ r. ⌜ (isOk r ≡ true → Packs-key (C·PacketCipher .cipher) (now (a .entry))) ⌝ }
+{
     let packet = KeyPacket {
         kind: a.kind,
         version: a.version,
