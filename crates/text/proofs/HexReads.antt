@@ -5,12 +5,11 @@ use mathlib.Core.Path.{_≡_, refl, sym, ap, ap₂, _∙_}
 use native.Mathlib.Omega.{arith}
 use lib.ListN.{length, drop, getD, take}
 use Rattle.std.proofs.shelf.Lists.{append-assoc, append-nil, drop-all, drop-drop, getD-drop, length-drop, take-rest}
-use Rattle.std.proofs.shelf.Tests.{cond-true, eq-eqb}
 use Rattle.std.specs.Options.{mapped}
 use Rattle.std.specs.declared.option.Option.{Option}
 use Rattle.std.specs.declared.option.Option.the-variants.{None, Some}
 use Rattle.text.specs.Numbers.{and-then}
-use Rattle.text.specs.Hex.{block-read, hex-pair, hex-read}
+use Rattle.text.specs.Hex.{hex-pair, hex-read}
 
 -- bytes that are read already, and what the rest of the digits says
 abbrev pub behind : List ℕ → Option (List ℕ) → Option (List ℕ)
@@ -66,6 +65,3 @@ read-none-at acc xs i h e =
 -- no digit is left
 pub read-all : (acc xs : List ℕ) (i : ℕ) → length xs ≤ 2 * i → Some acc ≡ behind acc (hex-read (drop (2 * i) xs))
 read-all acc xs i h = sym (ap (λ ys. behind acc (hex-read ys)) (drop-all (2 * i) xs h) ∙ ap (λ bs. Some bs) (append-nil acc))
-
-pub block-is : (xs : List ℕ) → length xs ≡ 32 → hex-read xs ≡ block-read xs
-block-is xs h = sym (cond-true _ _ _ (eq-eqb (length xs) 32 h))

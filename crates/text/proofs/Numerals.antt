@@ -3,15 +3,13 @@ use Prim.Native.Nat.{ℕ, _+_, _*_, _<_, _≤_, min}
 use mathlib.Core.List.{List, [], _∷_}
 use mathlib.Core.Path.{_≡_, refl, sym, ap, _∙_}
 use native.Mathlib.Omega.{arith}
-use lib.Dec.{eqb}
 use lib.ListN.{length, drop, getD}
 use Rattle.std.proofs.shelf.Lists.{at-drop-all, at-drop-more}
-use Rattle.std.proofs.shelf.Tests.{and-from, cond-false, cond-true, eq-eqb, lt-leb}
+use Rattle.std.proofs.shelf.Tests.{cond-false, lt-leb}
 use Rattle.std.specs.Options.{mapped}
 use Rattle.std.specs.declared.option.Option.{Option}
 use Rattle.std.specs.declared.option.Option.the-variants.{None, Some}
 use Rattle.text.specs.Decimal.{at-most, decimal-value}
-use Rattle.text.specs.Hex.{hex-number-read, hex-value}
 use Rattle.text.specs.Numbers.{and-then, number-after, number-of}
 
 same-cut : (m : ℕ) (o : Option ℕ) (f g : ℕ → Option ℕ) → ((d : ℕ) → mapped (min m) (f d) ≡ mapped (min m) (g d))
@@ -47,13 +45,6 @@ after-all digit base n bs i h = sym (at-drop-all (number-after digit base n) bs 
 pub of-some : (digit : ℕ → Option ℕ) (base : ℕ) (bs : List ℕ) → 0 < length bs → number-after digit base 0 bs ≡ number-of digit base bs
 of-some digit base [] h = absurd (omega arith)
 of-some digit base (b ∷ bs) h = refl
-
--- the digits behind "0x"
-pub behind-0x : (bs : List ℕ) → 2 ≤ length bs → getD bs 0 0 ≡ 48 → getD bs 1 0 ≡ 120
-    → mapped (min 0xFFFFFFFF) (number-of hex-value 16 (drop 2 bs)) ≡ hex-number-read bs
-behind-0x [] h p q = absurd (omega arith)
-behind-0x (z ∷ []) h p q = absurd (omega arith)
-behind-0x (z ∷ x ∷ bs) h p q = sym (cond-true _ _ _ (and-from (eqb z 48) (eqb x 120) (eq-eqb z 48 p) (eq-eqb x 120 q)))
 
 past-none : (limit : ℕ) (o : Option ℕ) (f : ℕ → Option ℕ) → ((d : ℕ) → and-then (f d) (at-most limit) ≡ None)
     → and-then (and-then o f) (at-most limit) ≡ None

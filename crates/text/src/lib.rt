@@ -11,6 +11,8 @@ mod tests {
     use crate::hex::hex_number;
     use crate::lines::HexLines;
     use crate::lines::HexLinesDisplay;
+    use std::alloc::AllocError;
+    use std::alloc::Global;
     use std::test::*;
 
     #[test]
@@ -34,38 +36,18 @@ mod tests {
         check_eq(decimal(b"65536", 65535), None)
     }
 
+    fn shown(heap: Global, bytes: &[u8]) -> Result<String, AllocError> {
+        HexLines { bytes }.to_string(heap)
+    }
+
     #[test]
     fn shows_lines(rt: LibcRuntime) -> Result<(), Fail> {
         let heap = rt.alloc();
-        let bytes = [0x0F; 17];
-        check_eq(
-            HexLines {
-                bytes: &bytes[0..0],
-            }
-                .to_string(heap)?
-                .as_str(),
-            "",
-        )?;
-        check_eq(
-            HexLines {
-                bytes: &bytes[0..1],
-            }
-                .to_string(heap)?
-                .as_str(),
-            "0F",
-        )?;
-        let line = "0F 0F 0F 0F 0F 0F 0F 0F 0F 0F 0F 0F 0F 0F 0F 0F";
-        check_eq(
-            HexLines {
-                bytes: &bytes[0..16],
-            }
-                .to_string(heap)?
-                .as_str(),
-            line,
-        )?;
-        check_eq(
-            HexLines { bytes: &bytes }.to_string(heap)?,
-            format!(heap, "{line}\n0F")?,
-        )
+        let bytes = [0x5F; 17];
+        let line = "5F 5F 5F 5F 5F 5F 5F 5F 5F 5F 5F 5F 5F 5F 5F 5F";
+        check_eq(shown(heap, &bytes[0..0])?.as_str(), "")?;
+        check_eq(shown(heap, &bytes[0..1])?.as_str(), "5F")?;
+        check_eq(shown(heap, &bytes[0..16])?.as_str(), line)?;
+        check_eq(shown(heap, &bytes)?, format!(heap, "{line}\n5F")?)
     }
 }

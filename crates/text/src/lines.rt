@@ -1,5 +1,4 @@
 // Bytes shown as capital hexadecimal pairs, sixteen to a line.
-ghost use mathlib.Core.List.{_++_};
 ghost use mathlib.Core.Path.{_≡_};
 ghost use Prim.Native.Nat.{_<_};
 ghost use Rattle.std.specs.Written.{Prints};

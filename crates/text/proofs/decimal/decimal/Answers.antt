@@ -3,7 +3,7 @@ use Prim.Native.Nat.{_+_, _*_, _<_}
 use mathlib.Core.Path.{_≡_, sym, ap, _∙_}
 use native.Mathlib.Omega.{arith}
 use lib.ListN.{length, drop}
-use Rattle.std.proofs.shelf.Tests.{cond-false, cond-true, eqb-false, le-leb, lt-leb}
+use Rattle.std.proofs.shelf.Tests.{eqb-false}
 use Rattle.text.specs.Decimal.{at-most, decimal-value}
 use Rattle.text.specs.Numbers.{and-then, number-after}
 use Rattle.text.proofs.Numerals.{after-all, after-more, after-none, digit-past, of-some}
@@ -47,12 +47,7 @@ loop-b-again c =
     ap (λ k. and-then (number-after decimal-value 10 k (drop (i + 1) bs)) (at-most (c .args .max))) total
     ∙ ap (λ o. and-then o (at-most (c .args .max))) more ∙ c .loop-b .inv
 
-pub returns-then-value-max : need.returns-then-value-max
-returns-then-value-max c =
+pub returns : need.returns
+returns c =
     let all = after-all decimal-value 10 (c .loop-b .value) (c .args .text .now) (c .loop-b .b-index) (omega arith) in
-    sym (cond-true _ _ _ (le-leb (c .loop-b .value) (c .args .max) (omega arith))) ∙ ap (λ o. and-then o (at-most (c .args .max))) all ∙ c .loop-b .inv
-
-pub returns-else-value-max : need.returns-else-value-max
-returns-else-value-max c =
-    let all = after-all decimal-value 10 (c .loop-b .value) (c .args .text .now) (c .loop-b .b-index) (omega arith) in
-    sym (cond-false _ _ _ (lt-leb (c .loop-b .value) (c .args .max) (omega arith))) ∙ ap (λ o. and-then o (at-most (c .args .max))) all ∙ c .loop-b .inv
+    c .up-to .ensures ∙ ap (λ o. and-then o (at-most (c .args .max))) all ∙ c .loop-b .inv

@@ -4,7 +4,7 @@ use mathlib.Core.Path.{_≡_}
 use lib.ListN.{length, drop, take}
 use Rattle.text.specs.Hex.{hex-read}
 use Rattle.text.proofs.HexReads.{behind}
-use Rattle.text.proofs.hex.hex_block.Given as given
+use Rattle.text.proofs.hex.sixteen.Given as given
 
 abbrev pub Inv-loop-i : given.InvT-loop-i
 Inv-loop-i l = (length (l .block) ≡ 16) × (behind (take (l .i) (l .block)) (hex-read (drop (2 * l .i) (l .text))) ≡ hex-read (l .text))

@@ -4,14 +4,10 @@ use mathlib.Core.Path.{_≡_, refl, sym, ap, _∙_}
 use native.Mathlib.Omega.{arith}
 use lib.ListN.{length, take, drop}
 use Rattle.std.proofs.shelf.Lists.{length-set, take-all, take-more-set}
-use Rattle.std.proofs.shelf.Tests.{cond-false, ne-eqb}
 use Rattle.std.specs.declared.option.Option.the-variants.{Some}
 use Rattle.text.specs.Hex.{hex-read}
-use Rattle.text.proofs.HexReads.{behind, behind-none, block-is, read-all, read-more-at, read-none-at}
-use Rattle.text.proofs.hex.hex_block.Needs as need
-
-pub returns-then-text-ne32 : need.returns-then-text-ne32
-returns-then-text-ne32 c = sym (cond-false _ _ _ (ne-eqb (length (c .args .text .now)) 32 (c .if-text-ne32 .taken)))
+use Rattle.text.proofs.HexReads.{behind, behind-none, read-all, read-more-at, read-none-at}
+use Rattle.text.proofs.hex.sixteen.Needs as need
 
 pub loop-i-holds : need.loop-i-holds
 loop-i-holds c = (refl, behind-none _)
@@ -21,7 +17,7 @@ returns-in-Break-block c =
     let xs = c .args .text .now in
     c .from-residual .ensures
     ∙ read-none-at (take (c .loop-i .i) (c .loop-i .block)) xs (c .loop-i .i) (omega arith) (c .in-Break-block .ensures tt)
-    ∙ c .loop-i .inv .1 ∙ block-is xs (c .if-text-ne32 .left)
+    ∙ c .loop-i .inv .1
 
 pub loop-i-again : need.loop-i-again
 loop-i-again c =
@@ -39,4 +35,4 @@ returns c =
     let xs = c .args .text .now in
     let i = c .loop-i .i in
     let all : take i (c .loop-i .block) ≡ c .loop-i .block = take-all i (c .loop-i .block) (omega arith) in
-    ap (λ bs. Some bs) (sym all) ∙ read-all (take i (c .loop-i .block)) xs i (omega arith) ∙ c .loop-i .inv .1 ∙ block-is xs (c .if-text-ne32 .left)
+    ap (λ bs. Some bs) (sym all) ∙ read-all (take i (c .loop-i .block)) xs i (omega arith) ∙ c .loop-i .inv .1
