@@ -1,0 +1,9 @@
+pub mod Places
+pub mod Exits
+pub mod OneStep
+pub mod StoredBack
+pub mod Through
+pub mod Performs
+pub mod Turns
+pub mod InMap
+pub mod Loops

@@ -1,0 +1,10 @@
+use mathlib.Core.Path.{refl}
+use Rattle.memory.specs.Meaning.Step.{set-key}
+use Rattle.memory.proofs.Through.{through}
+use Rattle.memory.proofs.scrambler.ScramblerMemory.set_key.Needs as need
+
+pub returns : need.returns
+returns g c =
+    let m = g .M·Memory .meaning (c .args .self .now .below) in
+    let s = set-key (c .args .slot) (c .args .«record») in
+    through (c .args .self .now .fixed) m s s refl refl _ _ (c .set-key .ensures)

@@ -1,0 +1,31 @@
+// The memories of the board behind one interface: the map, the held record, the supply, storing steps and their loops.
+mod areas;
+mod held;
+mod lent;
+mod memory;
+mod scrambler;
+mod steps;
+mod supply;
+
+pub use areas::AREAS;
+pub use areas::Area;
+pub use areas::MAP_SIZE;
+pub use areas::VECTOR_HIGH;
+pub use areas::VECTOR_LOW;
+pub use areas::check_range;
+pub use areas::place_in;
+pub use areas::place_of;
+pub use held::Held;
+pub use held::KeyRecord;
+pub use held::KeySlot;
+pub use lent::LentImage;
+pub use lent::lending::LentMemory;
+pub use lent::lending::lend;
+pub use lent::lending::sized;
+pub use memory::Memory;
+pub use memory::store_and_read;
+pub use scrambler::Scrambler;
+pub use scrambler::ScramblerMemory;
+pub use steps::mass_erase;
+pub use steps::store_data;
+pub use supply::Supply;
