@@ -1,4 +1,4 @@
--- The laws of CCM. Assumes nothing.
+-- The laws of CCM.
 use mathlib.Core.Path.{_≡_, refl, sym, ap, ap₂, subst, _∙_}
 use mathlib.Core.Bool.{Bool, true, false, cond}
 use mathlib.Core.List.{List, [], _∷_, _++_}

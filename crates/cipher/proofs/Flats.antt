@@ -1,4 +1,4 @@
--- Four words beside one another. Assumes nothing.
+-- Four words beside one another.
 use mathlib.Core.Path.{_≡_, refl, sym, ap, _∙_}
 use mathlib.Core.List.{List, [], _∷_, _++_}
 use Prim.Native.Nat.{ℕ, _+_, _≤_, _<_}

@@ -1,4 +1,4 @@
--- The laws of GCM. Assumes nothing.
+-- The laws of GCM.
 use mathlib.Core.Path.{_≡_, refl, sym, ap, ap₂, subst, _∙_}
 use mathlib.Core.Bool.{Bool, true, false, cond}
 use mathlib.Core.List.{List, [], _∷_, _++_}

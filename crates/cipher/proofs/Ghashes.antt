@@ -1,4 +1,4 @@
--- Steps of GHASH. Assumes nothing.
+-- Steps of GHASH.
 use mathlib.Core.Path.{_≡_, refl}
 use mathlib.Core.Bool.{cond}
 use Prim.Native.Nat.{ℕ, _+_, _-_, _/_, _%_, _^_}

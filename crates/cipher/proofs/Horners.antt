@@ -1,4 +1,4 @@
--- The product of GHASH from the last bit on, four bits at a time. Assumes nothing.
+-- The product of GHASH from the last bit on, four bits at a time.
 use mathlib.Core.Path.{_≡_, refl, sym, ap, ap₂, subst, _∙_}
 use mathlib.Core.Bool.{Bool, true, false, cond}
 use Prim.Native.Nat.{ℕ, zero, suc, _+_, _-_, _*_, _/_, _%_, _^_, _≤_, _<_}

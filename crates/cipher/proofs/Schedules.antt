@@ -1,4 +1,4 @@
--- The round keys and the states, one after another. Assumes nothing.
+-- The round keys and the states, one after another.
 use mathlib.Core.Path.{_≡_, refl, sym, ap, _∙_}
 use mathlib.Core.List.{List, [], _∷_, _++_, map}
 use Prim.Native.Nat.{ℕ, zero, suc, min, _+_, _≤_, _<_}

@@ -1,4 +1,4 @@
--- Steps of the loops over bytes and blocks. Assumes nothing.
+-- Steps of the loops over bytes and blocks.
 use mathlib.Core.Path.{_≡_, refl, sym, ap, ap₂, subst, _∙_}
 use mathlib.Core.Bool.{Bool, true, false, cond}
 use mathlib.Core.List.{List, [], _∷_, _++_}

@@ -1,4 +1,4 @@
--- A rule of a table of words, proved at all of its entries by one test that antt computes. Assumes nothing.
+-- A rule of a table of words, proved at all of its entries by one test that antt computes.
 use mathlib.Core.Path.{_≡_, refl, sym, ap, ap₂, subst, _∙_}
 use mathlib.Core.Bool.{Bool, true, false, cond}
 use mathlib.Core.List.{List, [], _∷_, map}
