@@ -1,0 +1,17 @@
+pub mod Frames
+pub mod Receipt
+pub mod Twins
+pub mod Steps
+pub mod Laying
+pub mod Deeds
+pub mod Runs
+pub mod Arrivals
+pub mod Kept
+pub mod Once
+pub mod Moves
+pub mod Updates
+pub mod OneList
+pub mod Laws
+pub mod Refusing
+pub mod Promised
+pub mod Examples

@@ -1,0 +1,11 @@
+pub mod Memory
+pub mod Packets
+pub mod Receiver
+pub mod Commands
+pub mod Board
+pub mod Words
+pub mod Promises
+pub mod Arrival
+pub mod Laws
+pub mod Instances
+pub mod Examples
