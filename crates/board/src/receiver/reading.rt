@@ -75,6 +75,7 @@ impl Receiver {
     pub fn clear(&mut self)
         ensures { λ _. ⌜ receiver-of (now (self .exit)) ≡ idle ⌝ }
     {
-        self.progress = Progress::Idle;
+        let idle = Progress::Idle;
+        self.progress = idle;
     }
 }
