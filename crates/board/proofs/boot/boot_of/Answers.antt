@@ -15,8 +15,8 @@ pub returns-then-high : goal.returns-then-high
 returns-then-high g c =
     let m = g.M.Memory.meaning c.args.memory.now in
     let e = c.record.ensures in
-    let l = c.is-blank-low.ensures in
-    let u = c.is-blank-high.ensures in
+    let l = c.is_blank-low.ensures in
+    let u = c.is_blank-high.ensures in
     let k = sym (ap (λ (h : Held). h.unfinished) e.value) ∙ c.if-record.false in
     let a = sym (ap (λ (x : Meaning). reads_blank (read_of x.contents 0xFFFE)) e.same) ∙ sym l.value in
     let b = sym (ap (λ (x : Meaning). reads_blank (read_of x.contents 0xFFFF)) (l.same ∙ e.same)) ∙ sym u.value in
@@ -26,8 +26,8 @@ pub returns-else-low : goal.returns-else-low
 returns-else-low g c =
     let m = g.M.Memory.meaning c.args.memory.now in
     let e = c.record.ensures in
-    let l = c.is-blank-low.ensures in
-    let u = c.is-blank-high.ensures in
+    let l = c.is_blank-low.ensures in
+    let u = c.is_blank-high.ensures in
     let k = sym (ap (λ (h : Held). h.unfinished) e.value) ∙ c.if-record.false in
     let a = sym (ap (λ (x : Meaning). reads_blank (read_of x.contents 0xFFFE)) e.same) ∙ sym l.value in
     let b = sym (ap (λ (x : Meaning). reads_blank (read_of x.contents 0xFFFF)) (l.same ∙ e.same)) ∙ sym u.value in

@@ -10,67 +10,67 @@ use Rattle.board.specs.declared.reply.Reply.TheVariants.{Done}
 use Rattle.board.specs.Sending.{outcome_of}
 use Rattle.board.proofs.obey.obey.Goals as goal
 
-pub returns-in-err-take-data : goal.returns-in-err-take-data
+pub returns-in_err-take_data : goal.returns-in_err-take_data
 unfolding obey
-returns-in-err-take-data g c =
+returns-in_err-take_data g c =
     let C = g.C.PacketCipher.cipher in
     let s = lit_board (g.M.Memory.meaning c.args.memory.now) c.args.session.now in
-    let e = c.in-err-take-data.ensures in
+    let e = c.in_err-take_data.ensures in
     record {
-      outcome = ap (outcome_of _ idle _) (passed_on _ _ c.from-residual.ensures.1) ∙ e.outcome
+      outcome = ap (outcome_of _ idle _) (passed_on _ _ c.from_residual.ensures.1) ∙ e.outcome
           ∙ ap (λ k. enact (obey C s c.args.core.now k) s) c.in-Data.ensures;
       rest = e.rest;
     }
 
-pub returns-in-err-take-key : goal.returns-in-err-take-key
+pub returns-in_err-take_key : goal.returns-in_err-take_key
 unfolding obey
-returns-in-err-take-key g c =
+returns-in_err-take_key g c =
     let C = g.C.PacketCipher.cipher in
     let s = lit_board (g.M.Memory.meaning c.args.memory.now) c.args.session.now in
-    let e = c.in-err-take-key.ensures in
+    let e = c.in_err-take_key.ensures in
     record {
-      outcome = ap (outcome_of _ idle _) (passed_on _ _ c.from-residual-in-err-take-key.ensures.1) ∙ e.outcome
+      outcome = ap (outcome_of _ idle _) (passed_on _ _ c.from_residual-in_err-take_key.ensures.1) ∙ e.outcome
           ∙ ap (λ k. enact (obey C s c.args.core.now k) s) c.in-Key.ensures;
       rest = e.rest;
     }
 
-pub returns-in-err-erase : goal.returns-in-err-erase
+pub returns-in_err-erase : goal.returns-in_err-erase
 unfolding obey enact
-returns-in-err-erase g c =
+returns-in_err-erase g c =
     let C = g.C.PacketCipher.cipher in
     let s = lit_board (g.M.Memory.meaning c.args.memory.now) c.args.session.now in
     let m = g.M.Memory.meaning c.args.memory.now in
-    let e = c.in-err-erase.ensures in
+    let e = c.in_err-erase.ensures in
     record {
-      outcome = ap₂ (outcome_of (g.M.Memory.meaning c.erase.new.memory) idle) e.session (passed_on _ _ c.from-residual-in-err-erase.ensures.1)
+      outcome = ap₂ (outcome_of (g.M.Memory.meaning c.erase.new.memory) idle) e.session (passed_on _ _ c.from_residual-in_err-erase.ensures.1)
           ∙ carried_dark erase_steps Closed m _ c.args.session.now _ (record { after = e.after; value = e.value })
           ∙ ap (λ k. enact (obey C s c.args.core.now k) s) c.in-MassErase.ensures;
       rest = refl;
     }
 
-pub returns-in-ok-take-data : goal.returns-in-ok-take-data
+pub returns-in_ok-take_data : goal.returns-in_ok-take_data
 unfolding obey
-returns-in-ok-take-data g c =
+returns-in_ok-take_data g c =
     let C = g.C.PacketCipher.cipher in
     let s = lit_board (g.M.Memory.meaning c.args.memory.now) c.args.session.now in
-    let e = c.in-ok-take-data.ensures in
+    let e = c.in_ok-take_data.ensures in
     record { outcome = e.outcome ∙ ap (λ k. enact (obey C s c.args.core.now k) s) c.in-Data.ensures; rest = e.rest }
 
-pub returns-in-ok-take-key : goal.returns-in-ok-take-key
+pub returns-in_ok-take_key : goal.returns-in_ok-take_key
 unfolding obey
-returns-in-ok-take-key g c =
+returns-in_ok-take_key g c =
     let C = g.C.PacketCipher.cipher in
     let s = lit_board (g.M.Memory.meaning c.args.memory.now) c.args.session.now in
-    let e = c.in-ok-take-key.ensures in
+    let e = c.in_ok-take_key.ensures in
     record { outcome = e.outcome ∙ ap (λ k. enact (obey C s c.args.core.now k) s) c.in-Key.ensures; rest = e.rest }
 
-pub returns-in-ok-erase : goal.returns-in-ok-erase
+pub returns-in_ok-erase : goal.returns-in_ok-erase
 unfolding obey enact
-returns-in-ok-erase g c =
+returns-in_ok-erase g c =
     let C = g.C.PacketCipher.cipher in
     let s = lit_board (g.M.Memory.meaning c.args.memory.now) c.args.session.now in
     let m = g.M.Memory.meaning c.args.memory.now in
-    let e = c.in-ok-erase.ensures in
+    let e = c.in_ok-erase.ensures in
     record {
       outcome = ap (λ n. outcome_of (g.M.Memory.meaning c.erase.new.memory) idle n (Ok Done)) e.session ∙ carried_well erase_steps Closed m _ c.args.session.now (record { after = e.after; value = e.value })
           ∙ ap (λ k. enact (obey C s c.args.core.now k) s) c.in-MassErase.ensures;

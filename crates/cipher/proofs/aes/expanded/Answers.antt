@@ -7,16 +7,16 @@ use Rattle.cipher.proofs.aes.expanded.Goals as goal
 pub loop-i-init : goal.loop-i-init
 loop-i-init c =
     let key = c.args.key.now in
-    let e : flat c.columns-of-k.result ≡ round_key key 0 = c.columns-of-k.ensures ∙ sym (round_key_none key) in
-    (e, refl, λ i h. let z : 0 ≡ i = omega arith in subst (λ (j : ℕ). flat (get_or (replicate 11 c.columns-of-k.result) j no_columns) ≡ round_key key j) z e)
+    let e : flat c.columns_of-k.result ≡ round_key key 0 = c.columns_of-k.ensures ∙ sym (round_key_none key) in
+    (e, refl, λ i h. let z : 0 ≡ i = omega arith in subst (λ (j : ℕ). flat (get_or (replicate 11 c.columns_of-k.result) j no_columns) ≡ round_key key j) z e)
 
 pub loop-i-preserved : goal.loop-i-preserved
 loop-i-preserved c =
     let key = c.args.key.now in
     let i = c.loop-i.i in
-    let k = c.next-round-key-k.result in
+    let k = c.next_round_key-k.result in
     let ks = c.loop-i.keys in
-    let h : flat k ≡ next_key (rcon i) (flat c.loop-i.k) = c.next-round-key-k.ensures in
+    let h : flat k ≡ next_key (rcon i) (flat c.loop-i.k) = c.next_round_key-k.ensures in
     let e : flat k ≡ round_key key (i + 1) = h ∙ ap (next_key (rcon i)) c.loop-i.invariant.0 ∙ sym (round_key_more key i) in
     let lt : i + 1 < length ks = omega (arith, c.loop-i.invariant.1) in (
       e,

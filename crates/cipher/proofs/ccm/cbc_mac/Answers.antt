@@ -9,7 +9,7 @@ loop-i-preserved g c =
     let E = g.B.BlockCipher.block (g.B.BlockCipher.keyed c.args.cipher.now) in
     let step = λ (x : List ℕ) (b : List ℕ). E (xors x b) in (
       c.encrypt-in-loop-i.array_long,
-      c.encrypt-in-loop-i.ensures ∙ ap E (c.add-into.ensures ∙ ap₂ xors c.loop-i.invariant.1 c.block-of-b.ensures)
+      c.encrypt-in-loop-i.ensures ∙ ap E (c.add_into.ensures ∙ ap₂ xors c.loop-i.invariant.1 c.block_of-b.ensures)
           ∙ sym (chain_more step (E c.args.first.now) c.args.data.now c.loop-i.i),
     )
 

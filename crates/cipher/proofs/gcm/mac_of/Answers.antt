@@ -6,6 +6,6 @@ use Rattle.cipher.proofs.gcm.mac_of.Goals as goal
 pub returns : goal.returns
 returns g c =
     let xs = c.args.data.now in
-    let h = c.new-factor.ensures ∙ c.from-be-bytes.ensures ∙ ap number c.encrypt.ensures in
+    let h = c.new-factor.ensures ∙ c.from_be_bytes.ensures ∙ ap number c.encrypt.ensures in
     let s : c.ghash.result ≡ ghash c.new-factor.result.value xs = c.ghash.ensures in
-    c.add-into.ensures ∙ ap₂ xors (c.to-be-bytes-x.ensures ∙ ap block_bytes (s ∙ ap (λ n. ghash n xs) h)) c.encrypt-2.ensures
+    c.add_into.ensures ∙ ap₂ xors (c.to_be_bytes-x.ensures ∙ ap block_bytes (s ∙ ap (λ n. ghash n xs) h)) c.encrypt-2.ensures

@@ -14,8 +14,8 @@ loop-i-preserved g c =
     let m = c.min-to.result - 16 * i in
     let xs = c.loop-i.data in
     let pad = c.encrypt.new.data in
-    let e : pad ≡ f (c.args.first + i) = c.encrypt.ensures ∙ ap E c.counter-block-pad.ensures ∙ ap f c.loop-i.invariant.0 in
-    let w : c.add-into.new.part ≡ xors (take m (drop (16 * i) xs)) pad = c.add-into.ensures in
+    let e : pad ≡ f (c.args.first + i) = c.encrypt.ensures ∙ ap E c.counter_block-pad.ensures ∙ ap f c.loop-i.invariant.0 in
+    let w : c.add_into.new.part ≡ xors (take m (drop (16 * i) xs)) pad = c.add_into.ensures in
     let h : 16 * i < length c.args.data.now = omega arith in
     let em : m ≡ min 16 (length c.args.data.now - 16 * i) = omega arith in (
       omega arith,

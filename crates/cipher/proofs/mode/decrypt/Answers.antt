@@ -15,5 +15,5 @@ returns g c =
     let w = drop 266 c.args.work.now in
     let s = stream (λ (k : ℕ). g.B.BlockCipher.block (g.B.BlockCipher.keyed c.args.cipher.now) (counter c.args.iv.now k)) c.args.first in
     let f : take (n - 0) lw ≡ body = ap (take (n - 0)) (c.lay.ensures ∙ append_assoc body z w) ∙ front body (z ++ w) n refl in
-    let e : c.add-stream.new.data ≡ xor_from s 0 body = c.add-stream.ensures ∙ ap (xor_from s 0) f in
-    front_work lw body c.add-stream.new.data z w n refl c.lay.ensures ∙ ap (λ x. (x ++ z) ++ w) e
+    let e : c.add_stream.new.data ≡ xor_from s 0 body = c.add_stream.ensures ∙ ap (xor_from s 0) f in
+    front_work lw body c.add_stream.new.data z w n refl c.lay.ensures ∙ ap (λ x. (x ++ z) ++ w) e

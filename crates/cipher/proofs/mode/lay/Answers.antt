@@ -5,5 +5,5 @@ use Rattle.cipher.proofs.mode.lay.Goals as goal
 pub returns : goal.returns
 returns c =
     let n = length c.args.bytes.now in
-    laid_work c.args.work.now c.args.bytes.now c.copy-from-slice.new.self c.wipe.new.s n refl c.requires.short c.requires.long
-    c.copy-from-slice.ensures.after (c.wipe.ensures ∙ ap (λ m. replicate m 0) (search rules))
+    laid_work c.args.work.now c.args.bytes.now c.copy_from_slice.new.self c.wipe.new.s n refl c.requires.short c.requires.long
+    c.copy_from_slice.ensures.after (c.wipe.ensures ∙ ap (λ m. replicate m 0) (search rules))

@@ -45,13 +45,13 @@ returns c =
     let key = c.args.key.now in
     let v = c.args.version in
     let number = c.args.number in
-    let iv = c.iv-of-iv.result in
+    let iv = c.iv_of-iv.result in
     let n = c.from.result in
     let k = c.from-2.result in
-    let a = c.address-of.result in
+    let a = c.address_of.result in
     let p : DataPacket = record { version = v; number = n; count = k; address = a; bytes = c.args.bytes } in
-    let e = c.in-ok-length.ensures in
+    let e = c.in_ok-length.ensures in
     let core : List ℕ → ℕ → ℕ → ℕ → List ℕ = λ i x y z. frame (packet C 0x30 key i (v ∷ (word x ++ (word y ++ (word 0 ++ (address_bytes z ++ c.args.bytes.now)))))) in
     front (frame (packet C 0x30 key iv (data_contents p))) _ _ (packed_data C key iv p 304) _ (passed C key iv p 304 _ e.answer) e.answer e.out
-    ∙ ap (λ x. core x n k a) c.iv-of-iv.ensures ∙ ap (λ x. core (part_iv v number) x k a) c.from.ensures
-    ∙ ap (λ x. core (part_iv v number) number x a) c.from-2.ensures ∙ ap (core (part_iv v number) number 3) c.address-of.ensures
+    ∙ ap (λ x. core x n k a) c.iv_of-iv.ensures ∙ ap (λ x. core (part_iv v number) x k a) c.from.ensures
+    ∙ ap (λ x. core (part_iv v number) number x a) c.from-2.ensures ∙ ap (core (part_iv v number) number 3) c.address_of.ensures

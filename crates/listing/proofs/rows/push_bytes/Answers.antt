@@ -10,7 +10,7 @@ pub loop-b-preserved : goal.loop-b-preserved
 loop-b-preserved c =
     let i = c.loop-b.b-index in
     let e : 4 * i + 4 ≡ 4 * (i + 1) = omega arith in
-    appended_more c.loop-b.invariant c.push-byte.ensures e (fours_more c.args.bytes.now i (omega arith))
+    appended_more c.loop-b.invariant c.push_byte.ensures e (fours_more c.args.bytes.now i (omega arith))
 
 pub returns : goal.returns
 returns c =

@@ -6,14 +6,14 @@ use Rattle.memory.proofs.areas.check_range.Goals as goal
 pub loop-init : goal.loop-init
 loop-init c = let z : c.args.count - 0 ≡ c.args.count = omega arith in ap (first_outside c.args.address) z
 
-pub returns-then-is-none : goal.returns-then-is-none
-returns-then-is-none c =
+pub returns-then-is_none : goal.returns-then-is_none
+returns-then-is_none c =
     let h : c.loop.counter < c.args.count = omega arith in
-    let e = sym (outside_here _ _ _ h (sym (ap is_some c.place-of.ensures.value) ∙ c.if-is-none.ensures)) ∙ c.loop.invariant in
+    let e = sym (outside_here _ _ _ h (sym (ap is_some c.place_of.ensures.value) ∙ c.if-is_none.ensures)) ∙ c.loop.invariant in
     record { value = ap refused_at e; examples = range_examples }
 
-known : (c : goal.Else-is-none) → is_some (place c.loop.at) ≡ true
-known c = sym (ap is_some c.place-of.ensures.value) ∙ c.if-is-none.ensures
+known : (c : goal.Else-is_none) → is_some (place c.loop.at) ≡ true
+known c = sym (ap is_some c.place_of.ensures.value) ∙ c.if-is_none.ensures
 
 pub overflow-add-at : goal.overflow-add-at
 overflow-add-at c = omega (arith, map_below c.loop.at (known c))

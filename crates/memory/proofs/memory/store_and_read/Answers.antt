@@ -6,13 +6,13 @@ use Rattle.memory.proofs.Exits.{passed_on}
 use Rattle.memory.proofs.StoredBack.{stored_back, stored_read}
 use Rattle.memory.proofs.memory.store_and_read.Goals as goal
 
-pub returns-in-err-store : goal.returns-in-err-store
-returns-in-err-store g c =
+pub returns-in_err-store : goal.returns-in_err-store
+returns-in_err-store g c =
     let m = g.M.Memory.meaning c.args.memory.now in
     let v = c.args.value in
     let long = g.M.Memory.long c.args.memory.now in
     let e = c.store.ensures in
-    let r = passed_on _ _ c.from-residual.ensures.1 ∙ ap (λ x. then x (Ok v)) (sym c.in-err-store.was ∙ e.value) in
+    let r = passed_on _ _ c.from_residual.ensures.1 ∙ ap (λ x. then x (Ok v)) (sym c.in_err-store.was ∙ e.value) in
     record { after = e.after; value = r; law = stored_back c.args.address v m long _ _ e.after r }
 
 pub returns : goal.returns
@@ -22,7 +22,7 @@ returns g c =
     let v = c.args.value in
     let long = g.M.Memory.long c.args.memory.now in
     let e = c.store.ensures in
-    let done = sym e.value ∙ c.in-ok-store.was in
+    let done = sym e.value ∙ c.in_ok-store.was in
     let r = c.read.ensures.value ∙ ap (λ n. read_of n.contents a) e.after ∙ stored_read a v m long done ∙ sym (ap (λ x. then x (Ok v)) done) in
     let n = c.read.ensures.same ∙ e.after in
     record { after = n; value = r; law = stored_back a v m long _ _ n r }

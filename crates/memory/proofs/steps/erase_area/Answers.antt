@@ -17,12 +17,12 @@ returns-in-None g c =
     let x = c.args.area.now in
     done_end _ _ m m (round_part c.args.vector _ x c.holds.ensures c.if-holds-vector.false ∙ ap (blanks_to (erase_last x)) c.in-None.is) refl
 
-pub blank-up-requires : goal.blank-up-requires
-blank-up-requires g c =
-    sym (ap all_in_map (round_blanks _ _ c.args.area.now _ _ c.holds.ensures c.if-holds-vector.false c.in-Some.is c.erase-last.ensures)) ∙ c.requires
+pub blank_up-requires : goal.blank_up-requires
+blank_up-requires g c =
+    sym (ap all_in_map (round_blanks _ _ c.args.area.now _ _ c.holds.ensures c.if-holds-vector.false c.in-Some.is c.erase_last.ensures)) ∙ c.requires
 
 pub returns-in-Some : goal.returns-in-Some
 returns-in-Some g c =
     let m = g.M.Memory.meaning c.args.memory.now in
-    let e = round_blanks _ _ c.args.area.now _ _ c.holds.ensures c.if-holds-vector.false c.in-Some.is c.erase-last.ensures in
-    done_all _ _ m m _ _ _ (ap (λ xs. performed xs m) (sym e)) refl c.blank-up.ensures
+    let e = round_blanks _ _ c.args.area.now _ _ c.holds.ensures c.if-holds-vector.false c.in-Some.is c.erase_last.ensures in
+    done_all _ _ m m _ _ _ (ap (λ xs. performed xs m) (sym e)) refl c.blank_up.ensures

@@ -8,18 +8,18 @@ use Rattle.memory.proofs.InMap.{append_parts, no_area}
 use Rattle.memory.proofs.Turns.{done_all, done_end, steps_broke, steps_went}
 use Rattle.memory.proofs.steps.erase_round.Goals as goal
 
-pub erase-area-requires : goal.erase-area-requires
-erase-area-requires g c =
+pub erase_area-requires : goal.erase_area-requires
+erase_area-requires g c =
     let h : c.loop-area.area-index < length c.args.areas.now = omega arith in
     let o = at_drop_more (flat_map (round c.args.vector)) c.args.areas.now c.loop-area.area-index no_area h in
     (append_parts (round c.args.vector _) _ (sym (ap all_in_map o) ∙ c.loop-area.invariant.0)).0
 
-pub returns-in-err-erase-area : goal.returns-in-err-erase-area
-returns-in-err-erase-area g c =
+pub returns-in_err-erase_area : goal.returns-in_err-erase_area
+returns-in_err-erase_area g c =
     let m = g.M.Memory.meaning c.loop-area.memory in
     let h : c.loop-area.area-index < length c.args.areas.now = omega arith in
     let o = at_drop_more (flat_map (round c.args.vector)) c.args.areas.now c.loop-area.area-index no_area h in
-    done_all _ _ m _ _ _ _ c.loop-area.invariant.1 (passed_on _ _ c.from-residual.ensures.1) (steps_broke _ _ _ m _ o _ c.in-err-erase-area.ensures)
+    done_all _ _ m _ _ _ _ c.loop-area.invariant.1 (passed_on _ _ c.from_residual.ensures.1) (steps_broke _ _ _ m _ o _ c.in_err-erase_area.ensures)
 
 pub loop-area-preserved : goal.loop-area-preserved
 loop-area-preserved g c =
@@ -27,7 +27,7 @@ loop-area-preserved g c =
     let h : c.loop-area.area-index < length c.args.areas.now = omega arith in
     let o = at_drop_more (flat_map (round c.args.vector)) c.args.areas.now c.loop-area.area-index no_area h in (
       (append_parts (round c.args.vector _) _ (sym (ap all_in_map o) ∙ c.loop-area.invariant.0)).1,
-      steps_went _ _ _ m _ o c.in-ok-erase-area.ensures ∙ c.loop-area.invariant.1,
+      steps_went _ _ _ m _ o c.in_ok-erase_area.ensures ∙ c.loop-area.invariant.1,
     )
 
 pub returns : goal.returns

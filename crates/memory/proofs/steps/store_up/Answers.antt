@@ -5,14 +5,14 @@ use Rattle.memory.proofs.Places.{map_below}
 use Rattle.memory.proofs.Turns.{done_all, done_end, step_broke, step_went}
 use Rattle.memory.proofs.steps.store_up.Goals as goal
 
-pub returns-in-err-store : goal.returns-in-err-store
-returns-in-err-store g c =
+pub returns-in_err-store : goal.returns-in_err-store
+returns-in_err-store g c =
     let m = g.M.Memory.meaning c.loop-b.memory in
     let vs = c.args.bytes.now in
     let h : c.loop-b.b-index < length vs = omega arith in
     let t = store_up_inside c.loop-b.at c.loop-b.b-index vs h c.loop-b.invariant.1 in
-    let d = step_broke _ _ _ m _ (store_up_more c.loop-b.at c.loop-b.b-index vs h) _ t.0 c.in-err-store.ensures in
-    done_all _ _ m _ _ _ _ c.loop-b.invariant.2 (passed_on _ _ c.from-residual.ensures.1) d
+    let d = step_broke _ _ _ m _ (store_up_more c.loop-b.at c.loop-b.b-index vs h) _ t.0 c.in_err-store.ensures in
+    done_all _ _ m _ _ _ _ c.loop-b.invariant.2 (passed_on _ _ c.from_residual.ensures.1) d
 
 pub overflow-add-at : goal.overflow-add-at
 overflow-add-at g c =
@@ -27,7 +27,7 @@ loop-b-preserved g c =
     let h : c.loop-b.b-index < length vs = omega arith in (
       omega arith,
       (store_up_inside c.loop-b.at c.loop-b.b-index vs h c.loop-b.invariant.1).1,
-      step_went _ _ _ m _ (store_up_more c.loop-b.at c.loop-b.b-index vs h) c.in-ok-store.ensures ∙ c.loop-b.invariant.2,
+      step_went _ _ _ m _ (store_up_more c.loop-b.at c.loop-b.b-index vs h) c.in_ok-store.ensures ∙ c.loop-b.invariant.2,
     )
 
 pub returns : goal.returns

@@ -20,17 +20,17 @@ returns g c =
     let a : leb 1 n && leb n 256 ≡ true = and_from _ _ (le-leb 1 n (omega arith)) (le-leb n 256 (omega arith)) in
     let b : leb p.address 0xFFFFFF ≡ true = le-leb _ _ (omega arith) in
     let d : leb (48 + n) (length out) ≡ true = le-leb _ _ (omega arith) in
-    let w = c.in-ok-check-iv.ensures in
+    let w = c.in_ok-check_iv.ensures in
     let passes = data_passes C key iv p (length out) a b w d in
     let u : Usable C key iv = (c.told-key, c.told-iv, formed C iv w) in
     let k : 30 + n - 30 ≡ n = omega arith in
     let ey =
-    ap₂ (λ (x : List ℕ) (y : List ℕ). put_mid 30 (30 + n - 30) (put_mid 20 10 out x) y) (c.copy-from-slice.ensures.after ∙ c.header.ensures) c.copy-from-slice-2.ensures.after
+    ap₂ (λ (x : List ℕ) (y : List ℕ). put_mid 30 (30 + n - 30) (put_mid 20 10 out x) y) (c.copy_from_slice.ensures.after ∙ c.header.ensures) c.copy_from_slice-2.ensures.after
     ∙ put_next 20 30 (30 + n - 30) out (data_header p) p.bytes.now refl k (omega arith) in
-    let eo = c.sealed-frame.ensures.out ∙ over_packed C L 0x30 (10 + n) key iv (data_contents p) out _ u (omega arith) (omega arith) (omega arith) ey in
-    let er = c.sealed-frame.ensures.answer in
+    let eo = c.sealed_frame.ensures.out ∙ over_packed C L 0x30 (10 + n) key iv (data_contents p) out _ u (omega arith) (omega arith) (omega arith) ey in
+    let er = c.sealed_frame.ensures.answer in
     record {
       answer = er ∙ ap Ok (sym (length_packed C L 0x30 (10 + n) key iv (data_contents p) out _ u (omega arith) (omega arith) (omega arith) ey)) ∙ sym (ap frame_length passes);
       out = eo ∙ sym (ap (λ r. laid r out) passes);
-      back = opens_back C L 0x30 (10 + n) key iv (data_contents p) out _ u (omega arith) (omega arith) (omega arith) ey c.sealed-frame.new.out c.sealed-frame.result eo er;
+      back = opens_back C L 0x30 (10 + n) key iv (data_contents p) out _ u (omega arith) (omega arith) (omega arith) ey c.sealed_frame.new.out c.sealed_frame.result eo er;
     }

@@ -17,18 +17,18 @@ returns g c =
     let kek = c.args.kek.now in
     let iv = c.args.iv.now in
     let d : leb 56 (length out) ≡ true = le-leb _ _ (omega arith) in
-    let w = c.in-ok-check-iv.ensures in
+    let w = c.in_ok-check_iv.ensures in
     let passes = key_passes C kek iv p (length out) w d in
     let u : Usable C kek iv = (c.told-kek, c.told-iv, formed C iv w) in
     let lk : length p.key ≡ 16 = search rules in
     let ey =
-    ap (λ (x : List ℕ). put_mid 22 16 (set (set out 20 p.kind) 21 p.version) x) c.copy-from-slice.ensures.after
+    ap (λ (x : List ℕ). put_mid 22 16 (set (set out 20 p.kind) 21 p.version) x) c.copy_from_slice.ensures.after
     ∙ ap (λ (x : List ℕ). put_mid 22 16 x p.key) (put_two out 20 p.kind p.version (omega arith))
     ∙ put_next 20 22 16 out (p.kind ∷ p.version ∷ []) p.key refl (sym lk) (omega arith) in
-    let eo = c.sealed-frame.ensures.out ∙ over_packed C L 0x31 18 kek iv (key_contents p) out _ u (omega arith) (omega arith) (omega arith) ey in
-    let er = c.sealed-frame.ensures.answer in
+    let eo = c.sealed_frame.ensures.out ∙ over_packed C L 0x31 18 kek iv (key_contents p) out _ u (omega arith) (omega arith) (omega arith) ey in
+    let er = c.sealed_frame.ensures.answer in
     record {
       answer = er ∙ ap Ok (sym (length_packed C L 0x31 18 kek iv (key_contents p) out _ u (omega arith) (omega arith) (omega arith) ey)) ∙ sym (ap frame_length passes);
       out = eo ∙ sym (ap (λ r. laid r out) passes);
-      back = opens_back C L 0x31 18 kek iv (key_contents p) out _ u (omega arith) (omega arith) (omega arith) ey c.sealed-frame.new.out c.sealed-frame.result eo er;
+      back = opens_back C L 0x31 18 kek iv (key_contents p) out _ u (omega arith) (omega arith) (omega arith) ey c.sealed_frame.new.out c.sealed_frame.result eo er;
     }

@@ -17,9 +17,9 @@ returns g c =
     let ln : length (take n (drop 20 out)) ≡ n = simp (length-take, length-drop) (omega arith) in
     let k = 36 + n - 20 in
     let ek : k ≡ 16 + n = omega arith in
-    let ei : c.copy-from-slice.new.self ≡ iv = c.copy-from-slice.ensures.after in
+    let ei : c.copy_from_slice.new.self ≡ iv = c.copy_from_slice.ensures.after in
     let body = c.seal.new.out in
-    let after = put_mid 20 k (put_mid 4 16 (set out 3 command) c.copy-from-slice.new.self) body in
+    let after = put_mid 20 k (put_mid 4 16 (set out 3 command) c.copy_from_slice.new.self) body in
     let ea : after ≡ put_mid 20 k (put_mid 4 16 (set out 3 command) iv) body = ap (λ x. put_mid 20 k (put_mid 4 16 (set out 3 command) x) body) ei in
     let es : body ≡ g.C.PacketCipher.cipher.seal c.args.key.now iv (take n (drop 20 out)) =
     c.seal.ensures ∙ ap (g.C.PacketCipher.cipher.seal c.args.key.now iv)
@@ -28,7 +28,7 @@ returns g c =
     let lb : length body ≡ 16 + n =
     ap length es ∙ g.met.C.PacketCipher.lawful.longer c.args.key.now iv (take n (drop 20 out)) (c.told-key, li, c.requires.formed) (omega (arith, ln)) ∙ omega (arith, ln) in
     record {
-      answer = c.ok-or.ensures.value ∙ ap (λ o. ok_or o OutputShort) (c.enclose.ensures.count ∙ cond-true _ _ _ (roomy out iv command n li c.requires.short c.requires.room body after k ek lb ea))
+      answer = c.ok_or.ensures.value ∙ ap (λ o. ok_or o OutputShort) (c.enclose.ensures.count ∙ cond-true _ _ _ (roomy out iv command n li c.requires.short c.requires.room body after k ek lb ea))
           ∙ ap Ok (omega arith);
       out = c.enclose.ensures.out ∙ enclosed out iv command n li c.requires.short c.requires.room body after k ek lb ea ∙ ap (λ b. over (frame (command ∷ (iv ++ b))) out) es;
     }

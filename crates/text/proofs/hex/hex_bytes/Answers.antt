@@ -7,5 +7,5 @@ pub loop-rest-preserved : goal.loop-rest-preserved
 loop-rest-preserved c =
     let h : 2 ≤ length c.loop-rest.rest.now = search rules in
     read_turn (vec_items c.loop-rest.bytes) (vec_items c.push.new.self) c.loop-rest.rest.now c.in-Some.b h c.in-Some.ensures
-    c.in-ok-push.ensures.items
+    c.in_ok-push.ensures.items
     ∙ c.loop-rest.invariant

@@ -8,22 +8,22 @@ use Rattle.text.proofs.hex.sixteen.Goals as goal
 pub loop-i-init : goal.loop-i-init
 loop-i-init c = (refl, behind_none _)
 
-pub returns-in-err-block : goal.returns-in-err-block
-returns-in-err-block c =
+pub returns-in_err-block : goal.returns-in_err-block
+returns-in_err-block c =
     let xs = c.args.text.now in
-    c.from-residual.ensures
-    ∙ read_none_at (take c.loop-i.i c.loop-i.block) xs c.loop-i.i (omega arith) c.in-err-block.ensures
+    c.from_residual.ensures
+    ∙ read_none_at (take c.loop-i.i c.loop-i.block) xs c.loop-i.i (omega arith) c.in_err-block.ensures
     ∙ c.loop-i.invariant.1
 
 pub loop-i-preserved : goal.loop-i-preserved
 loop-i-preserved c =
     let xs = c.args.text.now in
     let i = c.loop-i.i in
-    let b = c.in-ok-block.field-0 in
+    let b = c.in_ok-block.field-0 in
     let h : i < length c.loop-i.block = omega arith in (
       length-set c.loop-i.block i b ∙ c.loop-i.invariant.0,
       ap (λ acc. behind acc (hex_read (drop (2 * (i + 1)) xs))) (take_more_set c.loop-i.block i b h)
-          ∙ read_more_at (take i c.loop-i.block) xs i b (omega arith) c.in-ok-block.ensures ∙ c.loop-i.invariant.1,
+          ∙ read_more_at (take i c.loop-i.block) xs i b (omega arith) c.in_ok-block.ensures ∙ c.loop-i.invariant.1,
     )
 
 pub returns : goal.returns

@@ -8,7 +8,7 @@ pub loop-b-preserved : goal.loop-b-preserved
 unfolding crc_from
 loop-b-preserved c =
     let h : c.loop-b.b-index < length c.args.bytes.now = omega arith in
-    ap (λ s. crc_from s (drop (c.loop-b.b-index + 1) c.args.bytes.now)) c.crc-byte-sum.ensures
+    ap (λ s. crc_from s (drop (c.loop-b.b-index + 1) c.args.bytes.now)) c.crc_byte-sum.ensures
     ∙ sym (at_drop_more (crc_from c.loop-b.sum) c.args.bytes.now c.loop-b.b-index 0 h) ∙ c.loop-b.invariant
 
 pub returns : goal.returns

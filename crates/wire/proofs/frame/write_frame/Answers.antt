@@ -12,5 +12,5 @@ returns c =
     let h : room n (length xs) ≡ true = sym c.if-not-fits.ensures in
     record {
       count = c.enclose.ensures.count ∙ ap (frame_size n) (omega arith);
-      out = c.enclose.ensures.out ∙ copied xs core _ n _ h refl (omega arith) c.copy-from-slice.ensures.after (omega arith);
+      out = c.enclose.ensures.out ∙ copied xs core _ n _ h refl (omega arith) c.copy_from_slice.ensures.after (omega arith);
     }

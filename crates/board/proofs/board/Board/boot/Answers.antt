@@ -8,14 +8,14 @@ use Rattle.board.specs.State.{state_of}
 use Rattle.board.proofs.Calling.{dark_from, lit_from, only_dark, question_dark, question_on}
 use Rattle.board.proofs.board.Board.boot.Goals as goal
 
-pub returns-in-err-check-power : goal.returns-in-err-check-power
-returns-in-err-check-power g c =
+pub returns-in_err-check_power : goal.returns-in_err-check_power
+returns-in_err-check_power g c =
     let s = state_of g.M.Memory.meaning c.args.self.now in
-    let e = c.in-err-check-power.ensures in
+    let e = c.in_err-check_power.ensures in
     let t = question_dark g.C.PacketCipher.cipher s (dark_from s.dark _ e) in
     record {
       state = ap (λ (o : Outcome). o.state) t;
-      answer = ap boot_answer (passed_on _ _ c.from-residual.ensures.1) ∙ ap (λ f. refuses f []) (only_dark s.dark _ e) ∙ ap (λ (o : Outcome). o.answer) t;
+      answer = ap boot_answer (passed_on _ _ c.from_residual.ensures.1) ∙ ap (λ f. refuses f []) (only_dark s.dark _ e) ∙ ap (λ (o : Outcome). o.answer) t;
     }
 
 pub returns : goal.returns
@@ -23,8 +23,8 @@ unfolding enact
 returns g c =
     let s = state_of g.M.Memory.meaning c.args.self.now in
     let b = c.args.self.now in
-    let t = question_on g.C.PacketCipher.cipher s (lit_from s.dark c.in-ok-check-power.ensures) in
-    let e = c.boot-of.ensures in
+    let t = question_on g.C.PacketCipher.cipher s (lit_from s.dark c.in_ok-check_power.ensures) in
+    let e = c.boot_of.ensures in
     record {
       state = ap (λ m. board_with m (receiver_of b.receiver) b.session b.dark) e.same ∙ ap (λ (o : Outcome). o.state) t;
       answer = ap says e.value ∙ ap (λ (o : Outcome). o.answer) t;

@@ -86,7 +86,7 @@ returns g c =
     let a = c.answered.ensures in
     let q = c.hear-done.new.self in
     record {
-      state = ap (board_with (g.M.Memory.meaning q.memory) (receiver_of q.receiver) q.session) c.went-dark-self.ensures ∙ ap (λ (o : Outcome). o.state) t;
+      state = ap (board_with (g.M.Memory.meaning q.memory) (receiver_of q.receiver) q.session) c.went_dark-self.ensures ∙ ap (λ (o : Outcome). o.state) t;
       answer = a.answer ∙ ap (λ (o : Outcome). o.answer) t;
       reply = a.reply ∙ ap (λ (o : Outcome). over o.answer.sent xs) t;
       work = work_wiped C s b n w r l c.hear-done.new.work _ c.drop-guard-2.ensures h.rest;

@@ -14,15 +14,15 @@ returns-in-Byte g c =
     let b = c.in-Byte.byte in
     let xs = c.args.reply.now in
     let ws = c.args.work.now in
-    let n = c.at-most-n.result in
-    let k = c.at-most-k.result in
-    let lr : length (take (n - 0) xs) ≡ n = length-take-le (n - 0) xs (omega (arith, c.at-most-n.ensures.bound, c.requires.reply)) ∙ omega arith in
-    let lw : length (take (k - 0) ws) ≡ k = length-take-le (k - 0) ws (omega (arith, c.at-most-k.ensures.bound, c.requires.work)) ∙ omega arith in
+    let n = c.at_most-n.result in
+    let k = c.at_most-k.result in
+    let lr : length (take (n - 0) xs) ≡ n = length-take-le (n - 0) xs (omega (arith, c.at_most-n.ensures.bound, c.requires.reply)) ∙ omega arith in
+    let lw : length (take (k - 0) ws) ≡ k = length-take-le (k - 0) ws (omega (arith, c.at_most-k.ensures.bound, c.requires.work)) ∙ omega arith in
     let same =
-    ap₂ (λ x y. step C s (Byte b x y)) (lr ∙ c.at-most-n.ensures.value) (lw ∙ c.at-most-k.ensures.value)
-    ∙ capped_step C s b c.in-Byte.reply-length c.in-Byte.work-length ∙ ap (step C s) is in
-    let e = c.byte-answer.ensures in
+    ap₂ (λ x y. step C s (Byte b x y)) (lr ∙ c.at_most-n.ensures.value) (lw ∙ c.at_most-k.ensures.value)
+    ∙ capped_step C s b c.in-Byte.reply_length c.in-Byte.work_length ∙ ap (step C s) is in
+    let e = c.byte_answer.ensures in
     record {
       state = e.state ∙ ap (λ (o : Outcome). o.state) same;
-      answer = c.of-byte.ensures ∙ e.answer ∙ ap (λ (o : Outcome). o.answer) same;
+      answer = c.of_byte.ensures ∙ e.answer ∙ ap (λ (o : Outcome). o.answer) same;
     }

@@ -12,6 +12,6 @@ returns g c =
     let s = state_of g.M.Memory.meaning c.args.self.now in
     let t = powers_on g.C.PacketCipher.cipher s c.args.supply in
     record {
-      state = ap₂ (λ m h. board_with m h Closed false) c.set-supply.ensures.after c.clear.ensures ∙ ap (λ (o : Outcome). o.state) t;
+      state = ap₂ (λ m h. board_with m h Closed false) c.set_supply.ensures.after c.clear.ensures ∙ ap (λ (o : Outcome). o.state) t;
       answer = ap (λ (o : Outcome). o.answer) t;
     }

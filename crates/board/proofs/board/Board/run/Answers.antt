@@ -24,7 +24,7 @@ loop-event-preserved g c =
     let i = c.loop-event.event-index in
     let h : i < length es = omega arith in
     let e = c.call-answer.ensures.state in
-    let p = c.push-reserved.ensures in (
+    let p = c.push_reserved.ensures in (
       state_more C s t es i _ h e ∙ c.loop-event.invariant.0,
       answers_more C s t es i _ h e (vec_items c.loop-event.answers) _ _ p.items c.call-answer.ensures.answer ∙ c.loop-event.invariant.1,
       p.len ∙ ap (λ n. n + 1) c.loop-event.invariant.2,
@@ -36,12 +36,12 @@ loop-event-preserved g c =
 not_run : {V E : Type 0} (items : V → List Answer) (C : Cipher) (s : State) (es : List Event) (r : Result V E) (d : E) → IsErrAnd r (λ y. y ≡ d) → Answered items C s es s r
 not_run {V = V} {E = E} items C s es r d h = let P : Result V E → Type 0 = λ x. Answered items C s es s x in subst P (sym (passed_on r d h)) refl
 
-pub returns-in-err-answers : goal.returns-in-err-answers
-returns-in-err-answers g c =
+pub returns-in_err-answers : goal.returns-in_err-answers
+returns-in_err-answers g c =
     let C = g.C.PacketCipher.cipher in
     let s = state_of g.M.Memory.meaning c.args.self.now in
     let es = c.args.events.now in
-    record { answered = not_run vec_items C s es _ _ c.from-residual.ensures.1; promises = λ k past e. kept_promises C g.met.C.PacketCipher.lawful k (past ++ es) }
+    record { answered = not_run vec_items C s es _ _ c.from_residual.ensures.1; promises = λ k past e. kept_promises C g.met.C.PacketCipher.lawful k (past ++ es) }
 
 pub returns : goal.returns
 returns g c =

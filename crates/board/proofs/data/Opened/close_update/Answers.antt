@@ -10,7 +10,7 @@ pub returns-then-self : goal.returns-then-self
 unfolding closing_steps
 returns-then-self g c =
     let m = g.M.Memory.meaning c.args.memory.now in
-    done_by _ _ m _ _ (sym (cond-true _ _ _ (eq-eqb _ _ c.if-self.true))) (one_done (set_version c.args.self.now.ver false) m _ _ refl c.set-version.ensures)
+    done_by _ _ m _ _ (sym (cond-true _ _ _ (eq-eqb _ _ c.if-self.true))) (one_done (set_version c.args.self.now.ver false) m _ _ refl c.set_version.ensures)
 
 pub returns : goal.returns
 unfolding closing_steps

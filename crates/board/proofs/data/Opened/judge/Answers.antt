@@ -6,38 +6,38 @@ use Rattle.board.specs.States.{numbers_checked, packet_with, turn_checked, unjud
 use Rattle.board.proofs.Exits.{all_passed, failed_first, failed_second, failed_third}
 use Rattle.board.proofs.data.Opened.judge.Goals as goal
 
-pub returns-in-err-check-numbers : goal.returns-in-err-check-numbers
+pub returns-in_err-check_numbers : goal.returns-in_err-check_numbers
 unfolding judge_fields
-returns-in-err-check-numbers c = λ bs h.
+returns-in_err-check_numbers c = λ bs h.
     let o = c.args.self in
     let p = packet_with o bs in
     let u = numbers_checked o in
     let v = turn_checked c.args.session.now c.args.held.now p in
     let w = range_checked o.address (length bs) in
-    ap unjudged (passed_on _ _ c.from-residual.ensures.1) ∙ failed_first u v w p o _ c.in-err-check-numbers.ensures
+    ap unjudged (passed_on _ _ c.from_residual.ensures.1) ∙ failed_first u v w p o _ c.in_err-check_numbers.ensures
 
-pub returns-in-err-check-turn : goal.returns-in-err-check-turn
+pub returns-in_err-check_turn : goal.returns-in_err-check_turn
 unfolding judge_fields
-returns-in-err-check-turn c = λ bs h.
+returns-in_err-check_turn c = λ bs h.
     let o = c.args.self in
     let p = packet_with o bs in
     let u = numbers_checked o in
     let v = turn_checked c.args.session.now c.args.held.now p in
     let w = range_checked o.address (length bs) in
-    ap unjudged (passed_on _ _ c.from-residual-in-err-check-turn.ensures.1)
-    ∙ failed_second u v w p o _ c.in-ok-check-numbers.ensures (c.in-err-check-turn.ensures bs)
+    ap unjudged (passed_on _ _ c.from_residual-in_err-check_turn.ensures.1)
+    ∙ failed_second u v w p o _ c.in_ok-check_numbers.ensures (c.in_err-check_turn.ensures bs)
 
-pub returns-in-err-check-range : goal.returns-in-err-check-range
+pub returns-in_err-check_range : goal.returns-in_err-check_range
 unfolding judge_fields
-returns-in-err-check-range c = λ bs h.
+returns-in_err-check_range c = λ bs h.
     let o = c.args.self in
     let p = packet_with o bs in
     let u = numbers_checked o in
     let v = turn_checked c.args.session.now c.args.held.now p in
     let w = range_checked o.address (length bs) in
-    ap unjudged (passed_on _ _ c.from-residual-in-err-check-range.ensures.1)
-    ∙ failed_third u v w p o _ c.in-ok-check-numbers.ensures (c.in-ok-check-turn.ensures bs)
-    (c.in-err-check-range.ensures.value ∙ ap (range_checked o.address) (sym h))
+    ap unjudged (passed_on _ _ c.from_residual-in_err-check_range.ensures.1)
+    ∙ failed_third u v w p o _ c.in_ok-check_numbers.ensures (c.in_ok-check_turn.ensures bs)
+    (c.in_err-check_range.ensures.value ∙ ap (range_checked o.address) (sym h))
 
 pub returns : goal.returns
 unfolding judge_fields
@@ -47,5 +47,5 @@ returns c = λ bs h.
     let u = numbers_checked o in
     let v = turn_checked c.args.session.now c.args.held.now p in
     let w = range_checked o.address (length bs) in
-    all_passed u v w p o c.in-ok-check-numbers.ensures (c.in-ok-check-turn.ensures bs)
-    (c.in-ok-check-range.ensures.value ∙ ap (range_checked o.address) (sym h))
+    all_passed u v w p o c.in_ok-check_numbers.ensures (c.in_ok-check_turn.ensures bs)
+    (c.in_ok-check_range.ensures.value ∙ ap (range_checked o.address) (sym h))

@@ -10,7 +10,7 @@ pub returns-then-self-eq1 : goal.returns-then-self-eq1
 unfolding opening_steps
 returns-then-self-eq1 g c =
     let m = g.M.Memory.meaning c.args.memory.now in
-    done_by _ _ m _ _ (sym (cond-true _ _ _ (eq-eqb _ _ c.if-self-eq1.true))) (one_done (set_version c.args.self.now.ver true) m _ _ refl c.set-version.ensures)
+    done_by _ _ m _ _ (sym (cond-true _ _ _ (eq-eqb _ _ c.if-self-eq1.true))) (one_done (set_version c.args.self.now.ver true) m _ _ refl c.set_version.ensures)
 
 pub returns : goal.returns
 unfolding opening_steps

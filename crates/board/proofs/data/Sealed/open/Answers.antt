@@ -13,12 +13,12 @@ opened_same : (p : Packet) (v n m a k l : ℕ) → v ≡ p.ver → n ≡ p.pn �
     → ◌≡◌ {A = Opened} (record { ver = v; pn = n; np = m; address = a; place = k; count = l }) (opened_of p)
 opened_same p v n m a k l ev en em ea ek el = cc
 
-pub returns-in-err-open-body : goal.returns-in-err-open-body
-returns-in-err-open-body g c =
+pub returns-in_err-open_body : goal.returns-in_err-open_body
+returns-in_err-open_body g c =
     let C = g.C.PacketCipher.cipher in
     let core = c.args.core.now in
-    let e = c.in-err-open-body.ensures in
-    let p = passed_on _ _ c.from-residual.ensures.1 in
+    let e = c.in_err-open_body.ensures in
+    let p = passed_on _ _ c.from_residual.ensures.1 in
     record {
       value = p ∙ shut (λ x. Ok (opened_of (fields x))) (iv_checked C (iv_of core)) (C.opened c.args.key.now (iv_of core) (body_of core)) _ e.value;
       contents = made_none _ _ _ p;
@@ -30,9 +30,9 @@ unfolding fields
 returns g c =
     let C = g.C.PacketCipher.cipher in
     let core = c.args.core.now in
-    let e = c.in-ok-open-body.ensures in
-    let n = c.in-ok-open-body.field-0 in
-    let work = c.open-body.new.work in
+    let e = c.in_ok-open_body.ensures in
+    let n = c.in_ok-open_body.field-0 in
+    let work = c.open_body.new.work in
     let o = C.opened c.args.key.now (iv_of core) (body_of core) in
     let z : c.args.self.length - 33 - 0 ≡ n = omega (arith, e.contents.0) in
     let B = c.over-contents.result.bytes.now in

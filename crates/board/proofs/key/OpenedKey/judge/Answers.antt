@@ -11,25 +11,25 @@ use Rattle.board.specs.Keys.{judged_key, key_with}
 use Rattle.board.proofs.Exits.{then_failed, then_passed, then_value}
 use Rattle.board.proofs.key.OpenedKey.judge.Goals as goal
 
-pub returns-in-err-slot : goal.returns-in-err-slot
+pub returns-in_err-slot : goal.returns-in_err-slot
 unfolding judge_key_fields
-returns-in-err-slot c = λ key.
+returns-in_err-slot c = λ key.
     let o = c.args.self in
     let h = c.args.held.now in
-    passed_on _ _ c.from-residual.ensures.1
+    passed_on _ _ c.from_residual.ensures.1
     ∙ ap (λ v. judged_key o.place (then v (then (check (ltb (key_record h (slot_place (slot o.kt))).version o.kv) (OldKey o.kv)) (Ok (key_with o key)))))
-    (sym (then_failed _ _ _ c.in-err-slot.ensures))
+    (sym (then_failed _ _ _ c.in_err-slot.ensures))
 
 pub returns-then-self-old : goal.returns-then-self-old
 unfolding judge_key_fields
 returns-then-self-old c = λ key.
     let o = c.args.self in
     let h = c.args.held.now in
-    let at = c.place.ensures ∙ ap slot_place (then_value _ (slot o.kt) _ c.in-ok-slot.ensures) in
+    let at = c.place.ensures ∙ ap slot_place (then_value _ (slot o.kt) _ c.in_ok-slot.ensures) in
     let low : ltb (key_record h (slot_place (slot o.kt))).version o.kv ≡ false = ap (λ i. ltb (key_record h i).version o.kv) (sym at) ∙ le-ltb _ _ c.if-self-old.true in
     sym
     (ap (λ v. judged_key o.place (then v (then (check (ltb (key_record h (slot_place (slot o.kt))).version o.kv) (OldKey o.kv)) (Ok (key_with o key)))))
-    (then_passed _ _ _ c.in-ok-slot.ensures)
+    (then_passed _ _ _ c.in_ok-slot.ensures)
     ∙ ap (λ b. judged_key o.place (then (check b (OldKey o.kv)) (Ok (key_with o key)))) low)
 
 pub returns : goal.returns
@@ -37,11 +37,11 @@ unfolding judge_key_fields
 returns c = λ key.
     let o = c.args.self in
     let h = c.args.held.now in
-    let same = then_value _ (slot o.kt) _ c.in-ok-slot.ensures in
+    let same = then_value _ (slot o.kt) _ c.in_ok-slot.ensures in
     let at = c.place.ensures ∙ ap slot_place same in
     let high : ltb (key_record h (slot_place (slot o.kt))).version o.kv ≡ true = ap (λ i. ltb (key_record h i).version o.kv) (sym at) ∙ lt-ltb _ _ c.if-self-old.false in
     ap (λ s. Ok (record { slot = s; kv = o.kv; place = o.place })) same
     ∙ sym
     (ap (λ v. judged_key o.place (then v (then (check (ltb (key_record h (slot_place (slot o.kt))).version o.kv) (OldKey o.kv)) (Ok (key_with o key)))))
-    (then_passed _ _ _ c.in-ok-slot.ensures)
+    (then_passed _ _ _ c.in_ok-slot.ensures)
     ∙ ap (λ b. judged_key o.place (then (check b (OldKey o.kv)) (Ok (key_with o key)))) high)

@@ -12,12 +12,12 @@ use Rattle.board.proofs.key.SealedKey.open.Goals as goal
 abbrev opened_by : ℕ → ℕ → OpenedKey
 opened_by t v = record { kt = t; kv = v; place = 2 }
 
-pub returns-in-err-open-body : goal.returns-in-err-open-body
-returns-in-err-open-body g c =
+pub returns-in_err-open_body : goal.returns-in_err-open_body
+returns-in_err-open_body g c =
     let C = g.C.PacketCipher.cipher in
     let core = c.args.core.now in
-    let e = c.in-err-open-body.ensures in
-    let p = passed_on _ _ c.from-residual.ensures.1 in
+    let e = c.in_err-open_body.ensures in
+    let p = passed_on _ _ c.from_residual.ensures.1 in
     record {
       value = p ∙ shut (λ x. Ok (opened_key (key_fields x))) (iv_checked C (iv_of core)) (C.opened c.args.key.now (iv_of core) (body_of core)) _ e.value;
       contents = made_none _ _ _ p;
@@ -29,9 +29,9 @@ unfolding key_fields
 returns g c =
     let C = g.C.PacketCipher.cipher in
     let core = c.args.core.now in
-    let e = c.in-ok-open-body.ensures in
-    let n = c.in-ok-open-body.field-0 in
-    let work = c.open-body.new.work in
+    let e = c.in_ok-open_body.ensures in
+    let n = c.in_ok-open_body.field-0 in
+    let work = c.open_body.new.work in
     let o = C.opened c.args.key.now (iv_of core) (body_of core) in
     let z : n ≡ 18 = omega (arith, e.contents.0) in
     let lies : o ≡ Some (take 18 work) = e.contents.1 ∙ ap (λ k. Some (take k work)) z in

@@ -8,8 +8,8 @@ use Rattle.cipher.proofs.aes.Aes128.encrypted.Goals as goal
 pub loop-i-init : goal.loop-i-init
 loop-i-init c =
     let a = c.args.self.now in
-    let h : flat c.added-s.result ≡ xors (flat c.columns-of.result) (flat (get_or a.rounds 0 no_columns)) = c.added-s.ensures in
-    h ∙ ap₂ xors c.columns-of.ensures (a.schedule 0 (omega arith) ∙ round_key_none a.key) ∙ sym (state_none a.key c.args.block.now)
+    let h : flat c.added-s.result ≡ xors (flat c.columns_of.result) (flat (get_or a.rounds 0 no_columns)) = c.added-s.ensures in
+    h ∙ ap₂ xors c.columns_of.ensures (a.schedule 0 (omega arith) ∙ round_key_none a.key) ∙ sym (state_none a.key c.args.block.now)
 
 pub loop-i-preserved : goal.loop-i-preserved
 loop-i-preserved c =
@@ -23,5 +23,5 @@ unfolding aes
 returns c =
     let a = c.args.self.now in
     let e : c.loop-i.i ≡ 9 = omega arith in
-    let h : flat c.last-step.result ≡ last_round (flat (get_or a.rounds 10 no_columns)) (flat c.loop-i.s) = c.last-step.ensures in
-    c.bytes-of.ensures ∙ h ∙ ap₂ last_round (a.schedule 10 (omega arith)) (c.loop-i.invariant ∙ ap (state a.key c.args.block.now) e)
+    let h : flat c.last_step.result ≡ last_round (flat (get_or a.rounds 10 no_columns)) (flat c.loop-i.s) = c.last_step.ensures in
+    c.bytes_of.ensures ∙ h ∙ ap₂ last_round (a.schedule 10 (omega arith)) (c.loop-i.invariant ∙ ap (state a.key c.args.block.now) e)

@@ -8,5 +8,5 @@ pub returns : goal.returns
 returns c =
     let b = c.args.bytes.now in
     let j = 4 * c.args.i in
-    ap word_bytes c.from-be-bytes.ensures ∙ word_bytes_of (get_or b j 0) (get_or b (j + 1) 0) (get_or b (j + 2) 0) (get_or b (j + 3) 0) (search rules) (search rules) (search rules) (search rules)
+    ap word_bytes c.from_be_bytes.ensures ∙ word_bytes_of (get_or b j 0) (get_or b (j + 1) 0) (get_or b (j + 2) 0) (get_or b (j + 3) 0) (search rules) (search rules) (search rules) (search rules)
     ∙ sym (four b j (omega arith))

@@ -37,9 +37,9 @@ returns g c =
     let ed : dw ≡ (contents s body ++ replicate (266 - n) 0) ++ drop 266 work =
     c.decrypt.ensures ∙ ap₂ (λ k b. (xor_from (ccm_stream (block k) iv) 0 b ++ replicate (266 - length b) 0) ++ drop 266 work) c.new-cipher.ensures (ap (λ m. take m body) nz)
     ∙ ap (λ m. (contents s body ++ replicate (266 - m) 0) ++ drop 266 work) ln in
-    let et = c.tag-of-tag.ensures ∙ ap₂ (λ k x. ccm_tag (block k) iv x) c.new-cipher.ensures (contents_front s tag body work dw low high ed) in
+    let et = c.tag_of-tag.ensures ∙ ap₂ (λ k x. ccm_tag (block k) iv x) c.new-cipher.ensures (contents_front s tag body work dw low high ed) in
     let eg = take_rest body n in
     record {
-      answer = c.settled.ensures.answer ∙ open_answer s tag body work dw low high ed c.tag-of-tag.result _ et eg;
-      work = c.settled.ensures.after ∙ open_work s tag body work dw low high ed c.tag-of-tag.result _ et eg;
+      answer = c.settled.ensures.answer ∙ open_answer s tag body work dw low high ed c.tag_of-tag.result _ et eg;
+      work = c.settled.ensures.after ∙ open_work s tag body work dw low high ed c.tag_of-tag.result _ et eg;
     }

@@ -40,10 +40,10 @@ returns g c =
     let ed : dw ≡ (contents s body ++ replicate (266 - n) 0) ++ drop 266 work =
     c.decrypt.ensures ∙ ap₂ (λ k b. (xor_from (stream (λ m. block k (counter iv m)) 2) 0 b ++ replicate (266 - length b) 0) ++ drop 266 work) c.new-cipher.ensures (ap (λ m. take m body) nz)
     ∙ ap₂ (λ x m. (x ++ replicate (266 - m) 0) ++ drop 266 work) ss ln in
-    let et = c.mac-of-tag.ensures ∙ ap₂ (λ k m. gcm_mac (block k) iv (take m body)) c.new-cipher.ensures nz
+    let et = c.mac_of-tag.ensures ∙ ap₂ (λ k m. gcm_mac (block k) iv (take m body)) c.new-cipher.ensures nz
     ∙ ap (gcm_mac (block key) iv) (sym (xor_from_twice s 0 (take n body))) in
     let eg = take_rest body n in
     record {
-      answer = c.settled.ensures.answer ∙ open_answer s tag body work dw low high ed c.mac-of-tag.result _ et eg;
-      work = c.settled.ensures.after ∙ open_work s tag body work dw low high ed c.mac-of-tag.result _ et eg;
+      answer = c.settled.ensures.answer ∙ open_answer s tag body work dw low high ed c.mac_of-tag.result _ et eg;
+      work = c.settled.ensures.after ∙ open_work s tag body work dw low high ed c.mac_of-tag.result _ et eg;
     }

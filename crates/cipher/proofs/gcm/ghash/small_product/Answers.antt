@@ -12,7 +12,7 @@ loop-i-preserved c =
     let t = c.args.t in
     let y = c.args.y in
     let i = c.loop-i.i in
-    c.added-if-w.ensures ∙ ap (λ w. added (eqb (t / 2 ^ i % 2) 1) w y) (c.shifted.ensures ∙ ap halved c.loop-i.invariant) ∙ sym (horner_next t y i)
+    c.added_if-w.ensures ∙ ap (λ w. added (eqb (t / 2 ^ i % 2) 1) w y) (c.shifted.ensures ∙ ap halved c.loop-i.invariant) ∙ sym (horner_next t y i)
 
 pub returns : goal.returns
 returns c = let e : c.loop-i.i ≡ 4 = omega arith in c.loop-i.invariant ∙ ap (horner c.args.t c.args.y) e

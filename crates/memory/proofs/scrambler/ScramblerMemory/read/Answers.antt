@@ -5,16 +5,16 @@ use Rattle.memory.proofs.Exits.{passed_on}
 use Rattle.memory.proofs.Through.{read_clear, under}
 use Rattle.memory.proofs.scrambler.ScramblerMemory.read.Goals as goal
 
-pub returns-in-err-kept : goal.returns-in-err-kept
-returns-in-err-kept g c =
+pub returns-in_err-kept : goal.returns-in_err-kept
+returns-in_err-kept g c =
     let f = c.args.self.now.fixed in
     let a = c.args.address in
     let m = g.M.Memory.meaning c.args.self.now.below in
     let e = c.read.ensures in
-    let r = ap (under (λ b. bit_xor b (mask f a))) (sym c.in-err-kept.was ∙ e.value) in
+    let r = ap (under (λ b. bit_xor b (mask f a))) (sym c.in_err-kept.was ∙ e.value) in
     record {
       same = ap (clear_meaning f) e.same;
-      value = passed_on _ _ c.from-residual.ensures.1 ∙ r ∙ read_clear f a m.contents (g.M.Memory.long c.args.self.now.below);
+      value = passed_on _ _ c.from_residual.ensures.1 ∙ r ∙ read_clear f a m.contents (g.M.Memory.long c.args.self.now.below);
     }
 
 pub returns : goal.returns
@@ -23,9 +23,9 @@ returns g c =
     let a = c.args.address in
     let m = g.M.Memory.meaning c.args.self.now.below in
     let e = c.read.ensures in
-    let r = ap (under (λ b. bit_xor b (mask f a))) (sym c.in-ok-kept.was ∙ e.value) in
+    let r = ap (under (λ b. bit_xor b (mask f a))) (sym c.in_ok-kept.was ∙ e.value) in
     record {
       same = ap (clear_meaning f) e.same;
-      value = ap (λ k. Ok (bit_xor c.in-ok-kept.kept k)) c.mask-at.ensures ∙ r
+      value = ap (λ k. Ok (bit_xor c.in_ok-kept.kept k)) c.mask_at.ensures ∙ r
           ∙ read_clear f a m.contents (g.M.Memory.long c.args.self.now.below);
     }

@@ -7,4 +7,4 @@ pub returns : goal.returns
 returns g c =
     let m = g.M.Memory.meaning c.args.self.now.below in
     let s = set_key c.args.slot c.args.«record» in
-    through c.args.self.now.fixed m s s refl refl _ _ c.set-key.ensures
+    through c.args.self.now.fixed m s s refl refl _ _ c.set_key.ensures

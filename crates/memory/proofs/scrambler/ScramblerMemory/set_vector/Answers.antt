@@ -16,6 +16,6 @@ returns g c =
     let xs = m.contents.image in
     let low = bit_xor lo (mask f 0xFFFE) in
     let K : Step = set_vector low (bit_xor hi (mask f 0xFFFF)) in
-    let d : Made K m _ _ = rw (ap (bit_xor lo) c.mask-at.ensures, ap (bit_xor hi) c.mask-at-2.ensures) at c.set-vector.ensures in
+    let d : Made K m _ _ = rw (ap (bit_xor lo) c.mask_at.ensures, ap (bit_xor hi) c.mask_at-2.ensures) at c.set_vector.ensures in
     through f m (set_vector lo hi) K refl
     (ap (λ ys. with_image ys m.contents) (put_clear f 0xFFFF hi (put 0xFFFE low xs) ∙ ap (put 0xFFFF hi) (put_clear f 0xFFFE lo xs))) _ _ d

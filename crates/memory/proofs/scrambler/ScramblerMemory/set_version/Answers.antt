@@ -7,4 +7,4 @@ pub returns : goal.returns
 returns g c =
     let m = g.M.Memory.meaning c.args.self.now.below in
     let s = set_version c.args.number c.args.unfinished in
-    through c.args.self.now.fixed m s s refl refl _ _ c.set-version.ensures
+    through c.args.self.now.fixed m s s refl refl _ _ c.set_version.ensures

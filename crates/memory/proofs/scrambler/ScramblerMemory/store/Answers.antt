@@ -14,5 +14,5 @@ returns g c =
     let v = c.args.value in
     let m = g.M.Memory.meaning c.args.self.now.below in
     let K : Step = store a (bit_xor v (mask f a)) in
-    let d : Made K m _ _ = rw (ap (bit_xor v) c.mask-at.ensures) at c.store.ensures in
+    let d : Made K m _ _ = rw (ap (bit_xor v) c.mask_at.ensures) at c.store.ensures in
     through f m (store a v) K refl (ap (λ xs. with_image xs m.contents) (put_clear f a v m.contents.image)) _ _ d

@@ -8,7 +8,7 @@ use Rattle.cipher.proofs.gcm.ghash.Factor.ghash.Goals as goal
 pub loop-i-preserved : goal.loop-i-preserved
 loop-i-preserved c =
     let h = c.args.self.now.value in
-    c.times-y.ensures ∙ ap₂ (λ y b. times (bit_xor y b) h) c.loop-i.invariant (c.from-be-bytes-b.ensures ∙ ap number c.block-of.ensures)
+    c.times-y.ensures ∙ ap₂ (λ y b. times (bit_xor y b) h) c.loop-i.invariant (c.from_be_bytes-b.ensures ∙ ap number c.block_of.ensures)
     ∙ sym (chain_more (hash_step h) 0 c.args.data.now c.loop-i.i)
 
 pub returns : goal.returns

@@ -9,4 +9,4 @@ loop-t-preserved c =
     let t = c.loop-t.t in
     let f = λ (k : ℕ). horner k c.args.value 4 in
     let m = fill_by_more f ps t 0 (omega (arith, c.loop-t.invariant.0)) c.loop-t.invariant.1 in
-    (search rules, λ k h. ap (λ v. get_or (set ps t v) k 0) c.small-product.ensures ∙ m k h)
+    (search rules, λ k h. ap (λ v. get_or (set ps t v) k 0) c.small_product.ensures ∙ m k h)

@@ -4,14 +4,14 @@ use Rattle.memory.proofs.Exits.{none_found, passed_on}
 use Rattle.memory.proofs.OneStep.{read_found}
 use Rattle.memory.proofs.lent.lending.LentImageMemory.read.Goals as goal
 
-pub returns-in-err-p : goal.returns-in-err-p
-returns-in-err-p c =
+pub returns-in_err-p : goal.returns-in_err-p
+returns-in_err-p c =
     let m = lent_meaning c.args.self.now in
-    let o = c.in-err-p.ensures in
-    let r = passed_on _ _ c.from-residual.ensures.1 ∙ ap Err (none_found _ _ _ o.value) in
-    record { same = refl; value = r ∙ read_found _ _ m.contents (sym c.place-of.ensures.value ∙ o.ok-part) }
+    let o = c.in_err-p.ensures in
+    let r = passed_on _ _ c.from_residual.ensures.1 ∙ ap Err (none_found _ _ _ o.value) in
+    record { same = refl; value = r ∙ read_found _ _ m.contents (sym c.place_of.ensures.value ∙ o.ok-part) }
 
 pub returns : goal.returns
 returns c =
     let m = lent_meaning c.args.self.now in
-    record { same = refl; value = read_found _ _ m.contents (sym c.place-of.ensures.value ∙ c.in-ok-p.ensures.ok-part) }
+    record { same = refl; value = read_found _ _ m.contents (sym c.place_of.ensures.value ∙ c.in_ok-p.ensures.ok-part) }

@@ -5,10 +5,10 @@ use Rattle.memory.proofs.Exits.{passed_on}
 use Rattle.memory.proofs.OneStep.{spend_dark, spend_made}
 use Rattle.memory.proofs.lent.lending.LentImageMemory.set_version.Goals as goal
 
-pub returns-in-err-spend : goal.returns-in-err-spend
-returns-in-err-spend c =
-    spend_dark (set_version c.args.number c.args.unfinished) (lent_meaning c.args.self.now) _ _ _ (passed_on _ _ c.from-residual.ensures.1) refl
-    c.in-err-spend.ensures
+pub returns-in_err-spend : goal.returns-in_err-spend
+returns-in_err-spend c =
+    spend_dark (set_version c.args.number c.args.unfinished) (lent_meaning c.args.self.now) _ _ _ (passed_on _ _ c.from_residual.ensures.1) refl
+    c.in_err-spend.ensures
 
 pub returns : goal.returns
-returns c = spend_made (set_version c.args.number c.args.unfinished) (lent_meaning c.args.self.now) _ _ refl refl c.in-ok-spend.ensures
+returns c = spend_made (set_version c.args.number c.args.unfinished) (lent_meaning c.args.self.now) _ _ refl refl c.in_ok-spend.ensures

@@ -5,21 +5,21 @@ use Rattle.memory.proofs.Exits.{none_found, passed_on}
 use Rattle.memory.proofs.OneStep.{outside, put_found, spend_dark, spend_made}
 use Rattle.memory.proofs.lent.lending.LentImageMemory.store.Goals as goal
 
-pub returns-in-err-p : goal.returns-in-err-p
-returns-in-err-p c =
-    let o = c.in-err-p.ensures in
-    let r = passed_on _ _ c.from-residual.ensures.1 ∙ ap Err (none_found _ _ _ o.value) in
-    outside (store c.args.address c.args.value) (lent_meaning c.args.self.now) _ r (ap is_some (sym c.place-of.ensures.value ∙ o.ok-part))
+pub returns-in_err-p : goal.returns-in_err-p
+returns-in_err-p c =
+    let o = c.in_err-p.ensures in
+    let r = passed_on _ _ c.from_residual.ensures.1 ∙ ap Err (none_found _ _ _ o.value) in
+    outside (store c.args.address c.args.value) (lent_meaning c.args.self.now) _ r (ap is_some (sym c.place_of.ensures.value ∙ o.ok-part))
 
-pub returns-in-err-spend : goal.returns-in-err-spend
-returns-in-err-spend c =
-    let p = sym c.place-of.ensures.value ∙ c.in-ok-p.ensures.ok-part in
+pub returns-in_err-spend : goal.returns-in_err-spend
+returns-in_err-spend c =
+    let p = sym c.place_of.ensures.value ∙ c.in_ok-p.ensures.ok-part in
     spend_dark (store c.args.address c.args.value) (lent_meaning c.args.self.now) _ _ _
-    (passed_on _ _ c.from-residual-in-err-spend.ensures.1) (ap is_some p) c.in-err-spend.ensures
+    (passed_on _ _ c.from_residual-in_err-spend.ensures.1) (ap is_some p) c.in_err-spend.ensures
 
 pub returns : goal.returns
 returns c =
     let m = lent_meaning c.args.self.now in
-    let p = sym c.place-of.ensures.value ∙ c.in-ok-p.ensures.ok-part in
+    let p = sym c.place_of.ensures.value ∙ c.in_ok-p.ensures.ok-part in
     spend_made (store c.args.address c.args.value) m _ _ (put_found _ c.args.value _ m.contents p) (ap is_some p)
-    c.in-ok-spend.ensures
+    c.in_ok-spend.ensures
