@@ -38,7 +38,7 @@ pub fn replay<M: Memory, C: PacketCipher>(
     number: u64,
     rows: &mut Vec<u8>,
 ) -> Result<u64, AllocError>
-    ensures { IfOk result (Replayed cipher (state_of meaning board.old) events.now number rows.old.items (state_of meaning board.new) rows.new.items) }
+    ensures { IfOk result (Replayed C.cipher (state_of M.meaning board.old) events.now number rows.old.items (state_of M.meaning board.new) rows.new.items) }
 {
     let answers = board.run(heap, events)?;
     write_rows(rows, number, &answers)

@@ -9,8 +9,8 @@ use rules::Boot;
 
 // Whether the byte at an address is blank.
 fn is_blank<M: Memory>(memory: &mut M, address: u32) -> bool
-    ensures same { meaning memory.new ≡ meaning memory.old }
-    ensures value { result ≡ reads_blank (read_of (meaning memory.old).contents address) }
+    ensures same { M.meaning memory.new ≡ M.meaning memory.old }
+    ensures value { result ≡ reads_blank (read_of (M.meaning memory.old).contents address) }
 {
     match memory.read(address) {
         Ok(byte) => byte == 0xFF,
@@ -19,8 +19,8 @@ fn is_blank<M: Memory>(memory: &mut M, address: u32) -> bool
 }
 
 pub(crate) fn boot_of<M: Memory>(memory: &mut M) -> Boot
-    ensures same { meaning memory.new ≡ meaning memory.old }
-    ensures value { result ≡ boot (meaning memory.old).contents }
+    ensures same { M.meaning memory.new ≡ M.meaning memory.old }
+    ensures value { result ≡ boot (M.meaning memory.old).contents }
 {
     if memory.record().unfinished {
         return Boot::Unfinished;

@@ -59,7 +59,7 @@ impl<M: Memory, C: PacketCipher> Board<M, C> {
     fn hear(&mut self, byte: u8, work: &mut [u8]) -> Result<Reply, Fault>
         requires lit { self.old.dark ≡ false }
         requires work { 266 ≤ length work.old }
-        ensures outcome { outcome_of (meaning self.new.memory) (receiver_of self.new.receiver) self.new.session result ≡ on_byte cipher (state_of meaning self.old) byte }
+        ensures outcome { outcome_of (M.meaning self.new.memory) (receiver_of self.new.receiver) self.new.session result ≡ on_byte C.cipher (state_of M.meaning self.old) byte }
         ensures rest { drop 266 work.new ≡ drop 266 work.old }
     {
         match self.receiver.byte(byte)? {
@@ -76,9 +76,9 @@ impl<M: Memory, C: PacketCipher> Board<M, C> {
 
     // A byte arrives. Refuses a reply buffer under 11 bytes, then a work buffer under 266, then on a dark board.
     pub fn byte(&mut self, byte: u8, work: &mut [u8], reply: &mut [u8]) -> ByteAnswer
-        ensures state { state_of meaning self.new ≡ (step cipher (state_of meaning self.old) (Byte byte (length reply.old) (length work.old))).state }
-        ensures answer { byte_answer result reply.new ≡ (step cipher (state_of meaning self.old) (Byte byte (length reply.old) (length work.old))).answer }
-        ensures reply { reply.new ≡ over (step cipher (state_of meaning self.old) (Byte byte (length reply.old) (length work.old))).answer.sent reply.old }
+        ensures state { state_of M.meaning self.new ≡ (step C.cipher (state_of M.meaning self.old) (Byte byte (length reply.old) (length work.old))).state }
+        ensures answer { byte_answer result reply.new ≡ (step C.cipher (state_of M.meaning self.old) (Byte byte (length reply.old) (length work.old))).answer }
+        ensures reply { reply.new ≡ over (step C.cipher (state_of M.meaning self.old) (Byte byte (length reply.old) (length work.old))).answer.sent reply.old }
         ensures work { work.new ≡ work_after (length reply.old) work.old }
         ensures bound { (result.sent ≤ 11) × (result.sent ≤ length reply.old) }
     {
@@ -109,8 +109,8 @@ impl<M: Memory, C: PacketCipher> Board<M, C> {
 
     // The wire falls silent.
     pub fn silence(&mut self) -> Result<(), Fault>
-        ensures state { state_of meaning self.new ≡ (step cipher (state_of meaning self.old) Silence).state }
-        ensures answer { plain_answer result ≡ (step cipher (state_of meaning self.old) Silence).answer }
+        ensures state { state_of M.meaning self.new ≡ (step C.cipher (state_of M.meaning self.old) Silence).state }
+        ensures answer { plain_answer result ≡ (step C.cipher (state_of M.meaning self.old) Silence).answer }
     {
         self.check_power()?;
         self.receiver.clear();
@@ -119,8 +119,8 @@ impl<M: Memory, C: PacketCipher> Board<M, C> {
 
     // The boot question.
     pub fn boot(&mut self) -> Result<Boot, Fault>
-        ensures state { state_of meaning self.new ≡ (step cipher (state_of meaning self.old) Question).state }
-        ensures answer { boot_answer result ≡ (step cipher (state_of meaning self.old) Question).answer }
+        ensures state { state_of M.meaning self.new ≡ (step C.cipher (state_of M.meaning self.old) Question).state }
+        ensures answer { boot_answer result ≡ (step C.cipher (state_of M.meaning self.old) Question).answer }
     {
         self.check_power()?;
         Ok(boot_of(&mut self.memory))
@@ -128,8 +128,8 @@ impl<M: Memory, C: PacketCipher> Board<M, C> {
 
     // The power comes on, with a supply.
     pub fn power_up(&mut self, supply: Supply)
-        ensures state { state_of meaning self.new ≡ (step cipher (state_of meaning self.old) (PowerUp supply)).state }
-        ensures answer { quiet ≡ (step cipher (state_of meaning self.old) (PowerUp supply)).answer }
+        ensures state { state_of M.meaning self.new ≡ (step C.cipher (state_of M.meaning self.old) (PowerUp supply)).state }
+        ensures answer { quiet ≡ (step C.cipher (state_of M.meaning self.old) (PowerUp supply)).answer }
     {
         self.memory.set_supply(supply);
         self.receiver.clear();

@@ -10,8 +10,8 @@ use rules::Session;
 
 pub(crate) fn erase<M: Memory>(memory: &mut M, session: &mut Session) -> Result<(), Fault>
     ensures session { session.new ≡ Closed }
-    ensures after { meaning memory.new ≡ left_by (performed erase_steps (meaning memory.old)) }
-    ensures value { result ≡ answer_of (performed erase_steps (meaning memory.old)) }
+    ensures after { M.meaning memory.new ≡ left_by (performed erase_steps (M.meaning memory.old)) }
+    ensures value { result ≡ answer_of (performed erase_steps (M.meaning memory.old)) }
 {
     *session = Session::Closed;
     mass_erase(memory)

@@ -54,7 +54,7 @@ pub(crate) fn obey<M: Memory, C: PacketCipher>(
 ) -> Result<Reply, Fault>
     requires core { length core.now ≤ 299 }
     requires work { 266 ≤ length work.old }
-    ensures outcome { outcome_of (meaning memory.new) idle session.new result ≡ enact (obey cipher (lit_board (meaning memory.old) session.old) core.now (command core.now)) (lit_board (meaning memory.old) session.old) }
+    ensures outcome { outcome_of (M.meaning memory.new) idle session.new result ≡ enact (obey C.cipher (lit_board (M.meaning memory.old) session.old) core.now (command core.now)) (lit_board (M.meaning memory.old) session.old) }
     ensures rest { drop 266 work.new ≡ drop 266 work.old }
 {
     match command(core) {
@@ -90,7 +90,7 @@ pub(crate) fn obey_front<M: Memory, C: PacketCipher>(
     requires count { n ≤ 299 }
     requires buffer { n ≤ length buffer.now }
     requires work { 266 ≤ length work.old }
-    ensures outcome { outcome_of (meaning memory.new) idle session.new result ≡ enact (obey cipher (lit_board (meaning memory.old) session.old) (take n buffer.now) (command (take n buffer.now))) (lit_board (meaning memory.old) session.old) }
+    ensures outcome { outcome_of (M.meaning memory.new) idle session.new result ≡ enact (obey C.cipher (lit_board (M.meaning memory.old) session.old) (take n buffer.now) (command (take n buffer.now))) (lit_board (M.meaning memory.old) session.old) }
     ensures rest { drop 266 work.new ≡ drop 266 work.old }
 {
     obey::<M, C>(memory, session, &buffer[0..n], work)

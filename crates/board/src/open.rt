@@ -25,8 +25,8 @@ pub(crate) fn open_body<C: PacketCipher>(
 ) -> Result<usize, Fault>
     requires long { (44 ≤ length core.now) × (length core.now ≤ 299) }
     requires room { 266 ≤ length work.old }
-    ensures value { result ≡ then (iv_checked cipher (iv_of core.now)) (opening (cipher.opened key.now (iv_of core.now) (body_of core.now))) }
-    ensures contents { IfOk result (λ n. (n ≡ length core.now - 33) × (cipher.opened key.now (iv_of core.now) (body_of core.now) ≡ Some (take n work.new))) }
+    ensures value { result ≡ then (iv_checked C.cipher (iv_of core.now)) (opening (C.cipher.opened key.now (iv_of core.now) (body_of core.now))) }
+    ensures contents { IfOk result (λ n. (n ≡ length core.now - 33) × (C.cipher.opened key.now (iv_of core.now) (body_of core.now) ≡ Some (take n work.new))) }
     ensures rest { drop 266 work.new ≡ drop 266 work.old }
 {
     let iv = iv_of(core);

@@ -25,8 +25,8 @@ impl<M: Memory, C: PacketCipher> Board<M, C> {
     fn call(&mut self, event: Event, work: &mut [u8], reply: &mut [u8]) -> Answer
         requires work { length work.old ≡ 266 }
         requires reply { length reply.old ≡ 11 }
-        ensures state { state_of meaning self.new ≡ (step cipher (state_of meaning self.old) event).state }
-        ensures answer { answer_of result ≡ (step cipher (state_of meaning self.old) event).answer }
+        ensures state { state_of M.meaning self.new ≡ (step C.cipher (state_of M.meaning self.old) event).state }
+        ensures answer { answer_of result ≡ (step C.cipher (state_of M.meaning self.old) event).answer }
     {
         match event {
             Event::Byte(byte, reply_length, work_length) => {
@@ -47,7 +47,7 @@ impl<M: Memory, C: PacketCipher> Board<M, C> {
 
     // Makes the calls of a list, each with what it is given. Without memory for the answers nothing happens.
     pub fn run(&mut self, heap: Global, events: &[Event]) -> Result<Vec<Answer>, AllocError>
-        ensures { Ran vec_items cipher (state_of meaning self.old) events.now (state_of meaning self.new) result }
+        ensures { Ran vec_items C.cipher (state_of M.meaning self.old) events.now (state_of M.meaning self.new) result }
     {
         let mut answers = Vec::with_capacity(heap, events.len())?;
         let mut work = [0; 266];

@@ -19,7 +19,7 @@ pub(crate) fn take_data<M: Memory, C: PacketCipher>(
 ) -> Result<(), Fault>
     requires core { length core.now ≤ 299 }
     requires work { 266 ≤ length work.old }
-    ensures outcome { packet_outcome (meaning memory.new) session.new result ≡ enact (on_data (judge_data cipher (lit_board (meaning memory.old) session.old) core.now)) (lit_board (meaning memory.old) session.old) }
+    ensures outcome { packet_outcome (M.meaning memory.new) session.new result ≡ enact (on_data (judge_data C.cipher (lit_board (M.meaning memory.old) session.old) core.now)) (lit_board (M.meaning memory.old) session.old) }
     ensures rest { drop 266 work.new ≡ drop 266 work.old }
 {
     let sealed = Sealed::of(core)?;
@@ -42,7 +42,7 @@ pub(crate) fn take_key<M: Memory, C: PacketCipher>(
 ) -> Result<(), Fault>
     requires core { length core.now ≤ 299 }
     requires work { 266 ≤ length work.old }
-    ensures outcome { packet_outcome (meaning memory.new) session.new result ≡ enact (on_key (judge_key cipher (lit_board (meaning memory.old) session.old) core.now)) (lit_board (meaning memory.old) session.old) }
+    ensures outcome { packet_outcome (M.meaning memory.new) session.new result ≡ enact (on_key (judge_key C.cipher (lit_board (M.meaning memory.old) session.old) core.now)) (lit_board (M.meaning memory.old) session.old) }
     ensures rest { drop 266 work.new ≡ drop 266 work.old }
 {
     let sealed = SealedKey::of(core)?;

@@ -54,9 +54,9 @@ pub trait Memory {
 
 // Stores a byte and reads it back, over any memory.
 pub fn store_and_read<M: Memory>(memory: &mut M, address: u32, value: u8) -> Result<u8, Fault>
-    ensures after { meaning memory.new ≡ after (store address value) (meaning memory.old) }
-    ensures value { result ≡ then (answer (store address value) (meaning memory.old)) (Ok value) }
-    ensures law { StoredBack address value (meaning memory.old) (meaning memory.new) result }
+    ensures after { M.meaning memory.new ≡ after (store address value) (M.meaning memory.old) }
+    ensures value { result ≡ then (answer (store address value) (M.meaning memory.old)) (Ok value) }
+    ensures law { StoredBack address value (M.meaning memory.old) (M.meaning memory.new) result }
 {
     memory.store(address, value)?;
     memory.read(address)

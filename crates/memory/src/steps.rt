@@ -11,8 +11,8 @@ use fault::Fault;
 // Stores the bytes upward from an address, all of them at addresses of the map.
 fn store_up<M: Memory>(memory: &mut M, address: u32, bytes: &[u8]) -> Result<(), Fault>
     requires { all_in_map (store_up address bytes.now) ≡ true }
-    ensures after { meaning memory.new ≡ left_by (performed (store_up address bytes.now) (meaning memory.old)) }
-    ensures value { result ≡ answer_of (performed (store_up address bytes.now) (meaning memory.old)) }
+    ensures after { M.meaning memory.new ≡ left_by (performed (store_up address bytes.now) (M.meaning memory.old)) }
+    ensures value { result ≡ answer_of (performed (store_up address bytes.now) (M.meaning memory.old)) }
 {
     let mut at = address;
     for b in bytes {
@@ -24,8 +24,8 @@ fn store_up<M: Memory>(memory: &mut M, address: u32, bytes: &[u8]) -> Result<(),
 
 // Stores the bytes upward from an address; refuses bytes outside the map before the first step.
 pub fn store_data<M: Memory>(memory: &mut M, address: u32, bytes: &[u8]) -> Result<(), Fault>
-    ensures after { meaning memory.new ≡ data_left address bytes.now (meaning memory.old) }
-    ensures value { result ≡ data_answer address bytes.now (meaning memory.old) }
+    ensures after { M.meaning memory.new ≡ data_left address bytes.now (M.meaning memory.old) }
+    ensures value { result ≡ data_answer address bytes.now (M.meaning memory.old) }
 {
     check_range(address, bytes.len())?;
     store_up(memory, address, bytes)
@@ -34,8 +34,8 @@ pub fn store_data<M: Memory>(memory: &mut M, address: u32, bytes: &[u8]) -> Resu
 // Blanks the addresses from `first` to `last`, all of them of the map.
 fn blank_up<M: Memory>(memory: &mut M, first: u32, last: u32) -> Result<(), Fault>
     requires { all_in_map (blanks first ((last + 1) - first)) ≡ true }
-    ensures after { meaning memory.new ≡ left_by (performed (blanks first ((last + 1) - first)) (meaning memory.old)) }
-    ensures value { result ≡ answer_of (performed (blanks first ((last + 1) - first)) (meaning memory.old)) }
+    ensures after { M.meaning memory.new ≡ left_by (performed (blanks first ((last + 1) - first)) (M.meaning memory.old)) }
+    ensures value { result ≡ answer_of (performed (blanks first ((last + 1) - first)) (M.meaning memory.old)) }
 {
     for address in u64::from(first)..u64::from(last) + 1 {
         memory.store(address as u32, 0xFF)?;
@@ -46,8 +46,8 @@ fn blank_up<M: Memory>(memory: &mut M, first: u32, last: u32) -> Result<(), Faul
 // Blanks what is erased of an area, if it is of the round: of what holds the vector, or of the rest.
 fn erase_area<M: Memory>(memory: &mut M, area: &Area, vector: bool) -> Result<(), Fault>
     requires { all_in_map (round vector area.now) ≡ true }
-    ensures after { meaning memory.new ≡ left_by (performed (round vector area.now) (meaning memory.old)) }
-    ensures value { result ≡ answer_of (performed (round vector area.now) (meaning memory.old)) }
+    ensures after { M.meaning memory.new ≡ left_by (performed (round vector area.now) (M.meaning memory.old)) }
+    ensures value { result ≡ answer_of (performed (round vector area.now) (M.meaning memory.old)) }
 {
     if area.holds(VECTOR_LOW) != vector {
         return Ok(());
@@ -61,8 +61,8 @@ fn erase_area<M: Memory>(memory: &mut M, area: &Area, vector: bool) -> Result<()
 // One round over the areas, in their order.
 fn erase_round<M: Memory>(memory: &mut M, areas: &[Area; 4], vector: bool) -> Result<(), Fault>
     requires { all_in_map (flat_map (round vector) areas.now) ≡ true }
-    ensures after { meaning memory.new ≡ left_by (performed (flat_map (round vector) areas.now) (meaning memory.old)) }
-    ensures value { result ≡ answer_of (performed (flat_map (round vector) areas.now) (meaning memory.old)) }
+    ensures after { M.meaning memory.new ≡ left_by (performed (flat_map (round vector) areas.now) (M.meaning memory.old)) }
+    ensures value { result ≡ answer_of (performed (flat_map (round vector) areas.now) (M.meaning memory.old)) }
 {
     for area in areas.iter() {
         erase_area(memory, area, vector)?;
@@ -72,8 +72,8 @@ fn erase_round<M: Memory>(memory: &mut M, areas: &[Area; 4], vector: bool) -> Re
 
 // Blanks the vector, then the rest of its area, then the other areas.
 pub fn mass_erase<M: Memory>(memory: &mut M) -> Result<(), Fault>
-    ensures after { meaning memory.new ≡ left_by (performed erase_steps (meaning memory.old)) }
-    ensures value { result ≡ answer_of (performed erase_steps (meaning memory.old)) }
+    ensures after { M.meaning memory.new ≡ left_by (performed erase_steps (M.meaning memory.old)) }
+    ensures value { result ≡ answer_of (performed erase_steps (M.meaning memory.old)) }
     ensures written { EraseAsWritten }
     ensures count { length erase_steps ≡ 60479 }
 {

@@ -37,8 +37,8 @@ impl Sealed {
         requires core { self.length ≡ length core.now }
         requires long { (44 ≤ self.length) × (self.length ≤ 299) }
         requires room { 266 ≤ length work.old }
-        ensures value { result ≡ then (iv_checked cipher (iv_of core.now)) (on_opened (λ c. Ok (opened_of (fields c))) (cipher.opened key.now (iv_of core.now) (body_of core.now))) }
-        ensures contents { IfOk result (λ o. (o.place + o.count ≤ 266) × (cipher.opened key.now (iv_of core.now) (body_of core.now) ≡ Some (take (o.place + o.count) work.new))) }
+        ensures value { result ≡ then (iv_checked C.cipher (iv_of core.now)) (on_opened (λ c. Ok (opened_of (fields c))) (C.cipher.opened key.now (iv_of core.now) (body_of core.now))) }
+        ensures contents { IfOk result (λ o. (o.place + o.count ≤ 266) × (C.cipher.opened key.now (iv_of core.now) (body_of core.now) ≡ Some (take (o.place + o.count) work.new))) }
         ensures rest { drop 266 work.new ≡ drop 266 work.old }
     {
         open_body::<C>(key, core, work)?;

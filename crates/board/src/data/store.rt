@@ -13,8 +13,8 @@ use rules::Session;
 impl Opened {
     // The first step of a first packet.
     fn open_update<M: Memory>(&self, memory: &mut M) -> Result<(), Fault>
-        ensures after { meaning memory.new ≡ left_by (performed (opening_steps (packet_with self.now [])) (meaning memory.old)) }
-        ensures value { result ≡ answer_of (performed (opening_steps (packet_with self.now [])) (meaning memory.old)) }
+        ensures after { M.meaning memory.new ≡ left_by (performed (opening_steps (packet_with self.now [])) (M.meaning memory.old)) }
+        ensures value { result ≡ answer_of (performed (opening_steps (packet_with self.now [])) (M.meaning memory.old)) }
     {
         if self.pn == 1 {
             return memory.set_version(self.ver, true);
@@ -24,8 +24,8 @@ impl Opened {
 
     // The last step of a last packet.
     fn close_update<M: Memory>(&self, memory: &mut M) -> Result<(), Fault>
-        ensures after { meaning memory.new ≡ left_by (performed (closing_steps (packet_with self.now [])) (meaning memory.old)) }
-        ensures value { result ≡ answer_of (performed (closing_steps (packet_with self.now [])) (meaning memory.old)) }
+        ensures after { M.meaning memory.new ≡ left_by (performed (closing_steps (packet_with self.now [])) (M.meaning memory.old)) }
+        ensures value { result ≡ answer_of (performed (closing_steps (packet_with self.now [])) (M.meaning memory.old)) }
     {
         if self.pn == self.np {
             return memory.set_version(self.ver, false);
@@ -38,8 +38,8 @@ impl Judged {
     // Makes the storing steps of the packet, whose data lie in the work buffer.
     pub(crate) fn store<M: Memory>(self, memory: &mut M, work: &[u8]) -> Result<Stored, Fault>
         requires { self.opened.place + self.opened.count ≤ length work.now }
-        ensures after { meaning memory.new ≡ left_by (performed (data_steps (packet_in self.opened work.now)) (meaning memory.old)) }
-        ensures value { result ≡ then (answer_of (performed (data_steps (packet_in self.opened work.now)) (meaning memory.old))) (Ok (stored_of self.opened)) }
+        ensures after { M.meaning memory.new ≡ left_by (performed (data_steps (packet_in self.opened work.now)) (M.meaning memory.old)) }
+        ensures value { result ≡ then (answer_of (performed (data_steps (packet_in self.opened work.now)) (M.meaning memory.old))) (Ok (stored_of self.opened)) }
     {
         let Judged { opened } = self;
         opened.open_update(memory)?;

@@ -36,8 +36,8 @@ impl SealedKey {
         requires core { self.length ≡ length core.now }
         requires long { self.length ≡ 51 }
         requires room { 266 ≤ length work.old }
-        ensures value { result ≡ then (iv_checked cipher (iv_of core.now)) (on_opened (λ c. Ok (opened_key (key_fields c))) (cipher.opened key.now (iv_of core.now) (body_of core.now))) }
-        ensures contents { IfOk result (λ o. (o.place ≡ 2) × (cipher.opened key.now (iv_of core.now) (body_of core.now) ≡ Some (take 18 work.new))) }
+        ensures value { result ≡ then (iv_checked C.cipher (iv_of core.now)) (on_opened (λ c. Ok (opened_key (key_fields c))) (C.cipher.opened key.now (iv_of core.now) (body_of core.now))) }
+        ensures contents { IfOk result (λ o. (o.place ≡ 2) × (C.cipher.opened key.now (iv_of core.now) (body_of core.now) ≡ Some (take 18 work.new))) }
         ensures rest { drop 266 work.new ≡ drop 266 work.old }
     {
         open_body::<C>(key, core, work)?;

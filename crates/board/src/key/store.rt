@@ -11,8 +11,8 @@ impl JudgedKey {
     // Makes the one storing step of the packet, whose key lies in the work buffer.
     pub(crate) fn store<M: Memory>(self, memory: &mut M, work: &[u8]) -> Result<(), Fault>
         requires { self.place + 16 ≤ length work.now }
-        ensures after { meaning memory.new ≡ left_by (performed (key_step self work.now) (meaning memory.old)) }
-        ensures value { result ≡ answer_of (performed (key_step self work.now) (meaning memory.old)) }
+        ensures after { M.meaning memory.new ≡ left_by (performed (key_step self work.now) (M.meaning memory.old)) }
+        ensures value { result ≡ answer_of (performed (key_step self work.now) (M.meaning memory.old)) }
     {
         let mut key = [0; 16];
         let place = self.place;
