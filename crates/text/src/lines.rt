@@ -25,7 +25,7 @@ fn capital_digit(d: u8) -> char
 
 // Writes what stands before the byte with the index `i`.
 fn write_separator<W: fmt::Write>(f: &mut fmt::Formatter<W>, i: usize) -> fmt::Result
-    ensures { WritesOnOk write_str_gives f.old result (separator i) f.new }
+    ensures { WritesOnOk W.write_str_gives f.old result (separator i) f.new }
 {
     if i == 0 {
         Ok(())
@@ -38,7 +38,7 @@ fn write_separator<W: fmt::Write>(f: &mut fmt::Formatter<W>, i: usize) -> fmt::R
 
 // Writes the two digits of a byte.
 fn write_pair<W: fmt::Write>(f: &mut fmt::Formatter<W>, b: u8) -> fmt::Result
-    ensures { WritesOnOk write_str_gives f.old result (pair_text b) f.new }
+    ensures { WritesOnOk W.write_str_gives f.old result (pair_text b) f.new }
 {
     f.write_char(capital_digit(b / 16))?;
     f.write_char(capital_digit(b % 16))

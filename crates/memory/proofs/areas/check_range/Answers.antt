@@ -15,8 +15,8 @@ returns-then-is_none c =
 known : (c : goal.Else-is_none) → is_some (place c.loop.at) ≡ true
 known c = sym (ap is_some c.place_of.ensures.value) ∙ c.if-is_none.ensures
 
-pub overflow-add-at : goal.overflow-add-at
-overflow-add-at c = omega (arith, map_below c.loop.at (known c))
+pub overflow_add-at : goal.overflow_add-at
+overflow_add-at c = omega (arith, map_below c.loop.at (known c))
 
 pub loop-preserved : goal.loop-preserved
 loop-preserved c = let h : c.loop.counter < c.args.count = omega arith in sym (outside_on _ _ _ h (known c)) ∙ c.loop.invariant

@@ -2,8 +2,8 @@ use Rattle.std.proofs.Common.{◌<◌, ◌≤◌, length, is_some, sym, ap, ◌�
 use Rattle.memory.proofs.Places.{holds_first, place_here, place_known, place_none, place_on}
 use Rattle.memory.proofs.areas.place_in.Goals as goal
 
-pub overflow-sub-result : goal.overflow-sub-result
-overflow-sub-result c =
+pub overflow_sub-result : goal.overflow_sub-result
+overflow_sub-result c =
     let h : c.loop-area.area-index < length c.args.areas.now = omega arith in
     holds_first _ _ 0 _ _ h (sym c.holds.ensures ∙ c.if-holds.true)
 

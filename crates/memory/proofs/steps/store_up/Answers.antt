@@ -14,8 +14,8 @@ returns-in_err-store g c =
     let d = step_broke _ _ _ m _ (store_up_more c.loop-b.at c.loop-b.b-index vs h) _ t.0 c.in_err-store.ensures in
     done_all _ _ m _ _ _ _ c.loop-b.invariant.2 (passed_on _ _ c.from_residual.ensures.1) d
 
-pub overflow-add-at : goal.overflow-add-at
-overflow-add-at g c =
+pub overflow_add-at : goal.overflow_add-at
+overflow_add-at g c =
     let vs = c.args.bytes.now in
     let h : c.loop-b.b-index < length vs = omega arith in
     omega (arith, map_below c.loop-b.at (store_up_inside c.loop-b.at c.loop-b.b-index vs h c.loop-b.invariant.1).0)

@@ -6,11 +6,11 @@ use Rattle.wire.specs.Checksum.{crc_bits}
 use Rattle.wire.proofs.Shifts.{crc_byte_is, top_lt}
 use Rattle.wire.proofs.checksum.crc_byte.Goals as goal
 
-pub overflow-cast-result : goal.overflow-cast-result
-overflow-cast-result c = omega (arith, top_lt c.args.r c.args.b (omega arith) (omega arith))
+pub overflow_cast-result : goal.overflow_cast-result
+overflow_cast-result c = omega (arith, top_lt c.args.r c.args.b (omega arith) (omega arith))
 
-pub offset-bounds-top : goal.offset-bounds-top
-offset-bounds-top c = omega (arith, top_lt c.args.r c.args.b (omega arith) (omega arith))
+pub offset_bounds-top : goal.offset_bounds-top
+offset_bounds-top c = omega (arith, top_lt c.args.r c.args.b (omega arith) (omega arith))
 
 pub bounds-top : goal.bounds-top
 bounds-top c = top_lt c.args.r c.args.b (omega arith) (omega arith)

@@ -9,9 +9,9 @@ returns-in_err-p c =
     let m = lent_meaning c.args.self.now in
     let o = c.in_err-p.ensures in
     let r = passed_on _ _ c.from_residual.ensures.1 ∙ ap Err (none_found _ _ _ o.value) in
-    record { same = refl; value = r ∙ read_found _ _ m.contents (sym c.place_of.ensures.value ∙ o.ok-part) }
+    record { same = refl; value = r ∙ read_found _ _ m.contents (sym c.place_of.ensures.value ∙ o.ok_part) }
 
 pub returns : goal.returns
 returns c =
     let m = lent_meaning c.args.self.now in
-    record { same = refl; value = read_found _ _ m.contents (sym c.place_of.ensures.value ∙ c.in_ok-p.ensures.ok-part) }
+    record { same = refl; value = read_found _ _ m.contents (sym c.place_of.ensures.value ∙ c.in_ok-p.ensures.ok_part) }
