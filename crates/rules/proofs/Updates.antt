@@ -101,8 +101,8 @@ broken_stays C s (e ∷ es) c m n =
     let n' : Opened C (history C (step C s e).state es) → ⊥ = λ o. n (later o) in
     elim (view C s e) [
       | inl o ↦ absurd (n (here o))
-      | inr (k, stays u t l i x) ↦ broken_stays C (step C s e).state es (x ∙ c) (l.same-mark ∙ m) n'
-      | inr (k, ends t l x i) ↦ broken_stays C (step C s e).state es x (l.same-mark ∙ m) n'
+      | inr (k, stays u t l i x) ↦ broken_stays C (step C s e).state es (x ∙ c) (l.same_mark ∙ m) n'
+      | inr (k, ends t l x i) ↦ broken_stays C (step C s e).state es x (l.same_mark ∙ m) n'
       | inr (k, breaks t l x h j q) ↦ apart _ _ _ c q
       | inr (k, takes p t u q v x i w) ↦ apart _ _ _ c q
     ]
@@ -173,8 +173,8 @@ session_rest C L s (e ∷ es) fs n v m g x w o r =
       | inr (k, stays u t l i y) ↦
           let h = session_rest C L s' es fs n v m g' (y ∙ x) (l.same_version ∙ w) o' r in
           record { packets = h.packets; unbroken = calm u t k h.unbroken; numbered = h.numbered; sealed_all = h.sealed_all; laid = h.laid ∙ ap (laid_over h.packets) i }
-      | inr (k, ends t l y i) ↦ broken y l.same-mark
-      | inr (k, breaks t l y a b q) ↦ broken y l.same-mark
+      | inr (k, ends t l y i) ↦ broken y l.same_mark
+      | inr (k, breaks t l y a b q) ↦ broken y l.same_mark
       | inr (k, takes p t u q z y i a) ↦
           let pn_is : p.pn ≡ n = cc in
           let np_is : p.np ≡ m = cc in
