@@ -13,7 +13,7 @@ use Rattle.rules.specs.Commands.{command}
 use Rattle.rules.specs.declared.Command.{Command}
 use Rattle.rules.specs.declared.Command.TheVariants.{MassErase, Version, Reset, Data, Key, Unknown}
 use Rattle.rules.specs.declared.Session.{Session}
-use Rattle.rules.specs.Board.{KeyPacket, Outcome, Packet, State, carry_out, enact, heard_read, judge_data, judge_key, obey, on_data, on_key, refuses, respond}
+use Rattle.rules.specs.Board.{KeyPacket, Outcome, Packet, State, carry_out, enact, heard_read, judge_data, judge_fields, judge_key, judge_key_fields, obey, on_data, on_key, refuses, respond}
 use Rattle.rules.proofs.Refusing.{read_refused}
 use Rattle.board.specs.declared.reply.Reply.TheVariants.{Nothing}
 use Rattle.board.specs.Reading.{answer_by, left_by}
@@ -75,7 +75,7 @@ module _ (C : Cipher) (m : Meaning) (h : rules.Receiver) (n : Session) (d : Bool
   key_alike (Err f) = refl
 
   obeys_alike : (core : List ℕ) (k : Command) → enact (obey C (lit_board m n) core k) (lit_board m n) ≡ enact (obey C (s false) core k) (s false)
-  unfolding obey enact carry_out judge_data judge_key
+  unfolding obey enact carry_out judge_data judge_fields judge_key judge_key_fields
   obeys_alike core MassErase = refl
   obeys_alike core Version = refl
   obeys_alike core Reset = refl

@@ -10,67 +10,67 @@ use Rattle.board.specs.declared.reply.Reply.TheVariants.{Done}
 use Rattle.board.specs.Sending.{outcome_of}
 use Rattle.board.proofs.obey.obey.Goals as goal
 
-pub returns-in_err-take_data : goal.returns-in_err-take_data
+pub returns-in_err-take_data-in-Data : goal.returns-in_err-take_data-in-Data
 unfolding obey
-returns-in_err-take_data g c =
+returns-in_err-take_data-in-Data g c =
     let C = g.C.PacketCipher.cipher in
     let s = lit_board (g.M.Memory.meaning c.args.memory.now) c.args.session.now in
-    let e = c.in_err-take_data.ensures in
+    let e = c.in_err-take_data-in-Data.ensures in
     record {
       outcome = ap (outcome_of _ idle _) (passed_on _ _ c.from_residual.ensures.1) ∙ e.outcome
           ∙ ap (λ k. enact (obey C s c.args.core.now k) s) c.in-Data.ensures;
       rest = e.rest;
     }
 
-pub returns-in_err-take_key : goal.returns-in_err-take_key
+pub returns-in_err-take_key-in-Key : goal.returns-in_err-take_key-in-Key
 unfolding obey
-returns-in_err-take_key g c =
+returns-in_err-take_key-in-Key g c =
     let C = g.C.PacketCipher.cipher in
     let s = lit_board (g.M.Memory.meaning c.args.memory.now) c.args.session.now in
-    let e = c.in_err-take_key.ensures in
+    let e = c.in_err-take_key-in-Key.ensures in
     record {
-      outcome = ap (outcome_of _ idle _) (passed_on _ _ c.from_residual-in_err-take_key.ensures.1) ∙ e.outcome
+      outcome = ap (outcome_of _ idle _) (passed_on _ _ c.from_residual-in_err-take_key-in-Key.ensures.1) ∙ e.outcome
           ∙ ap (λ k. enact (obey C s c.args.core.now k) s) c.in-Key.ensures;
       rest = e.rest;
     }
 
-pub returns-in_err-erase : goal.returns-in_err-erase
+pub returns-in_err-erase-in-MassErase : goal.returns-in_err-erase-in-MassErase
 unfolding obey enact
-returns-in_err-erase g c =
+returns-in_err-erase-in-MassErase g c =
     let C = g.C.PacketCipher.cipher in
     let s = lit_board (g.M.Memory.meaning c.args.memory.now) c.args.session.now in
     let m = g.M.Memory.meaning c.args.memory.now in
-    let e = c.in_err-erase.ensures in
+    let e = c.in_err-erase-in-MassErase.ensures in
     record {
-      outcome = ap₂ (outcome_of (g.M.Memory.meaning c.erase.new.memory) idle) e.session (passed_on _ _ c.from_residual-in_err-erase.ensures.1)
+      outcome = ap₂ (outcome_of (g.M.Memory.meaning c.erase.new.memory) idle) e.session (passed_on _ _ c.from_residual-in_err-erase-in-MassErase.ensures.1)
           ∙ carried_dark erase_steps Closed m _ c.args.session.now _ (record { after = e.after; value = e.value })
           ∙ ap (λ k. enact (obey C s c.args.core.now k) s) c.in-MassErase.ensures;
       rest = refl;
     }
 
-pub returns-in_ok-take_data : goal.returns-in_ok-take_data
+pub returns-in_ok-take_data-in-Data : goal.returns-in_ok-take_data-in-Data
 unfolding obey
-returns-in_ok-take_data g c =
+returns-in_ok-take_data-in-Data g c =
     let C = g.C.PacketCipher.cipher in
     let s = lit_board (g.M.Memory.meaning c.args.memory.now) c.args.session.now in
-    let e = c.in_ok-take_data.ensures in
+    let e = c.in_ok-take_data-in-Data.ensures in
     record { outcome = e.outcome ∙ ap (λ k. enact (obey C s c.args.core.now k) s) c.in-Data.ensures; rest = e.rest }
 
-pub returns-in_ok-take_key : goal.returns-in_ok-take_key
+pub returns-in_ok-take_key-in-Key : goal.returns-in_ok-take_key-in-Key
 unfolding obey
-returns-in_ok-take_key g c =
+returns-in_ok-take_key-in-Key g c =
     let C = g.C.PacketCipher.cipher in
     let s = lit_board (g.M.Memory.meaning c.args.memory.now) c.args.session.now in
-    let e = c.in_ok-take_key.ensures in
+    let e = c.in_ok-take_key-in-Key.ensures in
     record { outcome = e.outcome ∙ ap (λ k. enact (obey C s c.args.core.now k) s) c.in-Key.ensures; rest = e.rest }
 
-pub returns-in_ok-erase : goal.returns-in_ok-erase
+pub returns-in_ok-erase-in-MassErase : goal.returns-in_ok-erase-in-MassErase
 unfolding obey enact
-returns-in_ok-erase g c =
+returns-in_ok-erase-in-MassErase g c =
     let C = g.C.PacketCipher.cipher in
     let s = lit_board (g.M.Memory.meaning c.args.memory.now) c.args.session.now in
     let m = g.M.Memory.meaning c.args.memory.now in
-    let e = c.in_ok-erase.ensures in
+    let e = c.in_ok-erase-in-MassErase.ensures in
     record {
       outcome = ap (λ n. outcome_of (g.M.Memory.meaning c.erase.new.memory) idle n (Ok Done)) e.session ∙ carried_well erase_steps Closed m _ c.args.session.now (record { after = e.after; value = e.value })
           ∙ ap (λ k. enact (obey C s c.args.core.now k) s) c.in-MassErase.ensures;

@@ -6,7 +6,7 @@ use Rattle.example.proofs.sending.push_frame.Goals as goal
 pub loop-byte-init : goal.loop-byte-init
 loop-byte-init c =
     let e = c.in_ok-reserve.ensures in
-    (sym (append-nil (vec_items c.reserve.new.self)), omega arith, omega (arith, e.ok refl))
+    (sym (append-nil (vec_items c.reserve.new.self)), omega arith, omega (arith, e.ok))
 
 pub push_reserved-requires : goal.push_reserved-requires
 push_reserved-requires c = omega (arith, c.loop-byte.invariant.1, c.loop-byte.invariant.2)

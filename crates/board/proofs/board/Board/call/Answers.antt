@@ -21,7 +21,7 @@ returns-in-Byte g c =
     let same =
     ap₂ (λ x y. step C s (Byte b x y)) (lr ∙ c.at_most-n.ensures.value) (lw ∙ c.at_most-k.ensures.value)
     ∙ capped_step C s b c.in-Byte.reply_length c.in-Byte.work_length ∙ ap (step C s) is in
-    let e = c.byte_answer.ensures in
+    let e = c.byte-answer.ensures in
     record {
       state = e.state ∙ ap (λ (o : Outcome). o.state) same;
       answer = c.of_byte.ensures ∙ e.answer ∙ ap (λ (o : Outcome). o.answer) same;
