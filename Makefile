@@ -1,14 +1,16 @@
-# make demo   prove what is needed, then seal, print and open packets
-# make test   the gate: what the program refuses, then rt ci (its last line: 'N passed, 0 failed')
+# make demo   prove what is needed, then seal, print and open packets, and tell the story of an update
+# make test   the gate: what the programs print and refuse, then rt ci (its last line: 'N passed, 0 failed')
 .PHONY: demo test
 
 demo:
-	@echo "Proving the program pack and what it stands on (from nothing, some minutes) .."
-	@mkdir -p target
-	@rt check pack > target/demo.log 2>&1 || { cat target/demo.log; exit 1; }
+	@echo "Proving the programs pack and demo and what they stand on (from nothing, some minutes) .."
+	@sh tests/build.sh pack data ccm 000102030405060708090A0B0C0D0E0F 01000000000000000000000000010000 7 1 1 0x4400 00
+	@sh tests/build.sh demo
 	@sh tests/demo.sh
 
 test:
-	rt check pack
+	sh tests/expected.sh
+	sh tests/build.sh pack data ccm 000102030405060708090A0B0C0D0E0F 01000000000000000000000000010000 7 1 1 0x4400 00
 	sh tests/refusals.sh
-	rt ci
+	sh tests/refused.sh
+	sh tests/gate.sh

@@ -1,8 +1,9 @@
 #!/bin/sh
-# Carries the program's main job out: one data packet and one key packet, sealed, framed, printed and opened again; then a refusal.
+# Carries the programs' main jobs out: one data packet and one key packet, sealed, framed, printed and opened again; then a refusal; then
+# the story of an update that is cut by a power failure.
 set -e
 cd "$(dirname "$0")/.."
-pack=target/bin/pack
+pack=crates/pack/out/pack
 key=000102030405060708090A0B0C0D0E0F
 kek=F0E0D0C0B0A090807060504030201000
 
@@ -14,3 +15,5 @@ echo "# A key packet with GCM: a new data key of version 1, sealed under the key
 echo
 echo "# An IV that is not well formed for CCM is refused, with the place of its first wrong byte."
 "$pack" data ccm $key 01000000000000000000000000010007 7 1 1 0x4400 00 || echo "(status $?)"
+echo
+crates/demo/out/demo

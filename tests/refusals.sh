@@ -1,5 +1,5 @@
 #!/bin/sh
-# What the program pack says to what it refuses and to malformed arguments, and its status then. It needs target/bin/pack.
+# What the program pack says to what it refuses and to malformed arguments, and its status then. It needs crates/pack/out/pack.
 cd "$(dirname "$0")/.."
 key=000102030405060708090A0B0C0D0E0F
 ccm=01000000000000000000000000010000
@@ -13,7 +13,7 @@ failed=0
 expect() {
     want=$1 status=$2
     shift 2
-    got=$(target/bin/pack "$@" 2>&1)
+    got=$(crates/pack/out/pack "$@" 2>&1)
     code=$?
     if [ "$got" != "$want" ] || [ $code != "$status" ]; then
         echo "tests/refusals.sh: pack $*"

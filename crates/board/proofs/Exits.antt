@@ -1,5 +1,5 @@
 -- What the exits of a chain of checks tell.
-use Rattle.std.proofs.Common.{◌≡◌, ℕ, List, is_err, IsErrAnd, IfOk, Some, None, Ok, Err, Option, Result, sym, refl, ap, ◌∙◌, subst, arith}
+use Rattle.std.proofs.Common.{◌≡◌, ℕ, List, is_err, IfOk, Some, None, Ok, Err, Option, Result, sym, refl, ap, ◌∙◌, subst, arith}
 use Rattle.std.proofs.lemmas.Result.{IfOk-from_err}
 use Rattle.fault.specs.Checks.{then}
 use Rattle.fault.specs.declared.Fault.{Fault}

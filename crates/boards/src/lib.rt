@@ -1,3 +1,5 @@
+#![tactic(auto)]
+
 // Examples of a board's calls, with both ciphers, over the lent image and over a scrambler. The expected answers are worked out
 // by hand from the rules; those of a whole listing are in the program bench.
 #[cfg(test)]

@@ -1,5 +1,5 @@
 -- Steps of GHASH.
-use Rattle.std.proofs.Common.{◌≡◌, ℕ, ◌+◌, ◌-◌, ◌/◌, ◌%◌, ◌^◌, cond, eqb, refl, add-one}
+use Rattle.std.proofs.Common.{◌≡◌, ℕ, ◌+◌, ◌-◌, ◌/◌, ◌%◌, ◌^◌, cond, eqb, add-one}
 use lib.Bits.{bit_xor}
 use Rattle.cipher.specs.Ghash.{v_after, z_after, halved}
 

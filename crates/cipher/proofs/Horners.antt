@@ -1,10 +1,9 @@
 -- The product of GHASH from the last bit on, four bits at a time.
-use Rattle.std.proofs.Common.{◌≡◌, ℕ, zero, suc, ◌+◌, ◌-◌, ◌*◌, ◌/◌, ◌%◌, ◌^◌, ◌<◌, ◌≤◌, Bool, true, false, cond, eqb, sym, refl, ap, ◌∙◌, subst, ap₂, add-zero, add-suc, zero-add, add-one, arith}
-use lib.Bits.{bit_xor, xor_assoc, xor_comm, xor_self, xor_zero_r, xor_zero_l, xor_shr, xor_mod, xor_shifted}
+use Rattle.std.proofs.Common.{◌≡◌, ℕ, zero, suc, ◌+◌, ◌-◌, ◌*◌, ◌/◌, ◌%◌, ◌^◌, ◌<◌, Bool, true, false, cond, eqb, sym, refl, ap, ◌∙◌, ap₂, add-zero, add-suc, add-one, arith}
+use lib.Bits.{bit_xor, xor_assoc, xor_comm, xor_zero_r, xor_zero_l, xor_shr, xor_mod, xor_shifted}
 use Rattle.std.proofs.lemmas.Nat.{shr-shr}
 use Rattle.cipher.specs.Ghash.{halved, v_after, z_after, times}
 use Rattle.cipher.specs.Horner.{added, horner, fourth}
-use Rattle.cipher.proofs.Ghashes.{v_more, z_more}
 
 abbrev R : ℕ
 R = 0xe1000000000000000000000000000000

@@ -1,5 +1,5 @@
 -- What sealing and opening leave in their buffers.
-use Rattle.std.proofs.Common.{◌≡◌, ℕ, ◌+◌, ◌-◌, ◌<◌, ◌≤◌, Bool, true, false, cond, List, [], ◌∷◌, ◌++◌, length, take, drop, replicate, Some, None, Ok, Err, sym, refl, ap, ◌∙◌, ap₂, arith, length-append, length-take}
+use Rattle.std.proofs.Common.{◌≡◌, ℕ, ◌-◌, ◌≤◌, Bool, true, false, cond, List, ◌++◌, length, take, drop, replicate, Some, None, Ok, Err, sym, ap, ◌∙◌, ap₂, arith, length-append, length-take}
 use Rattle.std.proofs.lemmas.List.{take_at, drop_at, append_assoc, length-replicate}
 use Rattle.std.proofs.lemmas.Bool.{and_from, le-leb}
 use Rattle.fault.specs.declared.Fault.TheVariants.{NotOpened}

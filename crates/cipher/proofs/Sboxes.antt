@@ -1,5 +1,5 @@
 -- The S-box is the affine image of the inverse in the field: one test that is computed over the whole table.
-use Rattle.std.proofs.Common.{◌≡◌, ℕ, zero, suc, ◌+◌, ◌<◌, Bool, true, false, cond, ◌&&◌, eqb, ltb, ◌⊎◌, List, [], ◌∷◌, length, get_or, refl, subst, inl, inr, le_of_suc-le-suc, not-suc-le-zero, arith, eqb-true}
+use Rattle.std.proofs.Common.{◌≡◌, ℕ, zero, suc, ◌+◌, ◌<◌, Bool, true, false, cond, ◌&&◌, eqb, ltb, List, [], ◌∷◌, length, get_or, refl, subst, inl, inr, le_of_suc-le-suc, not-suc-le-zero, arith, eqb-true}
 use Rattle.std.proofs.lemmas.Bool.{and_parts, ltb-true}
 use Rattle.cipher.specs.Aes.{sbox, sub}
 use Rattle.cipher.specs.Field.{product, affine, Inverse, AffineInverse}

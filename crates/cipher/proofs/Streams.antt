@@ -1,9 +1,9 @@
 -- Steps of the loops over bytes and blocks.
-use Rattle.std.proofs.Common.{◌≡◌, ℕ, zero, suc, ◌+◌, ◌-◌, ◌*◌, ◌/◌, ◌%◌, ◌<◌, ◌≤◌, min, Bool, true, false, cond, eqb, List, [], ◌∷◌, ◌++◌, length, get_or, take, drop, set, replicate, sym, refl, ap, ◌∙◌, subst, ap₂, le_of_suc-le-suc, not-suc-le-zero, add-one, arith, length-append, length-drop, length-take, take-add, eq-eqb, ne_eqb, eqb-true}
+use Rattle.std.proofs.Common.{◌≡◌, ℕ, zero, suc, ◌+◌, ◌-◌, ◌*◌, ◌<◌, ◌≤◌, min, Bool, true, false, cond, eqb, List, [], ◌∷◌, ◌++◌, length, get_or, take, drop, set, replicate, sym, refl, ap, ◌∙◌, ap₂, le_of_suc-le-suc, not-suc-le-zero, add-one, arith, length-drop, length-take, take-add, eq-eqb, ne_eqb, eqb-true}
 use native.Mathlib.Nat.{suc-min-suc}
-use lib.Bits.{bit_xor, bit_or, bit_and, xor_assoc, xor_self, xor_zero_r, xor_zero_l, or_add_and, and_le_l, and_le_r, or_zero_l, or_zero_r}
+use lib.Bits.{bit_xor, bit_or, xor_assoc, xor_self, xor_zero_r, or_add_and, and_le_r}
 use borrow.Author.Tests.{eqb-false}
-use Rattle.std.proofs.lemmas.List.{append_assoc, append-nil, take_all, drop_all, take_at, drop_at, take-append-drop, set_split, take_more_set, drop-drop, length-set, drop-replicate}
+use Rattle.std.proofs.lemmas.List.{append_assoc, append-nil, take_all, drop_all, take_at, drop_at, set_split, take_more_set, drop-drop, length-set, drop-replicate}
 use Rattle.cipher.specs.Bytes.{xors}
 use Rattle.cipher.specs.Blocks.{stream, padded, block_at, chain}
 use Rattle.cipher.specs.Sealing.{xor_from, same}

@@ -1,5 +1,5 @@
 -- A rule of a table of words, proved at all of its entries by one test that antt computes.
-use Rattle.std.proofs.Common.{◌≡◌, ℕ, zero, suc, ◌+◌, ◌*◌, ◌<◌, Bool, true, false, cond, eqb, List, [], ◌∷◌, map, length, get_or, sym, refl, ap, ◌∙◌, subst, ap₂, le_of_suc-le-suc, not-suc-le-zero, add-zero, add-suc, suc-add, zero-add, eqb-true}
+use Rattle.std.proofs.Common.{◌≡◌, ℕ, zero, suc, ◌+◌, ◌*◌, ◌<◌, Bool, true, false, cond, List, [], ◌∷◌, map, length, get_or, sym, refl, subst, le_of_suc-le-suc, not-suc-le-zero}
 use Rattle.cipher.specs.Bytes.{word_bytes}
 use Rattle.cipher.specs.Aes.{sub, sbox}
 use Rattle.cipher.specs.Sealing.{same}

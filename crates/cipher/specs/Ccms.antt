@@ -1,9 +1,9 @@
 -- The laws of CCM.
-use Rattle.std.specs.Prelude.{◌≡◌, ℕ, zero, suc, ◌+◌, ◌-◌, ◌*◌, ◌/◌, ◌%◌, ◌<◌, ◌≤◌, min, Bool, true, false, cond, eqb, List, [], ◌∷◌, ◌++◌, length, get_or, take, drop, replicate, refl}
-use Rattle.std.proofs.Common.{sym, ap, ap₂, subst, ◌∙◌, arith, length-append, length-take, length-drop}
+use Rattle.std.specs.Prelude.{◌≡◌, ℕ, zero, suc, List, ◌∷◌, length, replicate, refl}
+use Rattle.std.proofs.Common.{arith, length-append, length-take, length-drop}
 use Rattle.std.proofs.lemmas.List.{length-replicate}
 use Rattle.cipher.specs.Bytes.{xors}
-use Rattle.cipher.specs.Blocks.{stream, padded, block_at, blocks, chain, counter}
+use Rattle.cipher.specs.Blocks.{block_at, blocks, chain, counter}
 use Rattle.cipher.specs.Ccm.{ccm, ccm_tag, ccm_stream, ccm_fixed, first_block, mac}
 use Rattle.cipher.specs.Cipher.{Lawful}
 use Rattle.cipher.specs.Schemes.{mode_lawful}

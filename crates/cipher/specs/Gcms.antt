@@ -1,9 +1,8 @@
 -- The laws of GCM.
-use Rattle.std.specs.Prelude.{◌≡◌, ℕ, zero, suc, ◌+◌, ◌-◌, ◌*◌, ◌/◌, ◌%◌, ◌<◌, ◌≤◌, min, Bool, true, false, cond, List, [], ◌∷◌, ◌++◌, length, take, replicate, ◌==◌, bit_xor, slice_index, refl}
-use Rattle.std.proofs.Common.{sym, ap, ap₂, subst, ◌∙◌, arith, eqb-true, length-append, length-take, length-drop}
+use Rattle.std.specs.Prelude.{◌≡◌, ℕ, ◌+◌, ◌/◌, ◌%◌, ◌<◌, ◌≤◌, true, List, [], ◌∷◌, ◌++◌, length, take, replicate, ◌==◌, bit_xor, slice_index, refl}
+use Rattle.std.proofs.Common.{ap, ap₂, ◌∙◌, arith, eqb-true}
 use Rattle.std.proofs.lemmas.List.{append_assoc, take_more}
 use Rattle.std.proofs.lemmas.Bool.{and_parts}
-use Rattle.cipher.specs.Bytes.{xors, word_bytes}
 use Rattle.cipher.specs.Blocks.{stream, counter}
 use Rattle.cipher.specs.Cipher.{Lawful}
 use Rattle.cipher.specs.Sealing.{xor_from, has_fixed}

@@ -1,5 +1,5 @@
 -- The field of GCM, after SP 800-38D, section 6: a block is a number whose top bit is the block's first bit.
-use Rattle.std.specs.Prelude.{ℕ, zero, suc, ◌+◌, ◌-◌, ◌*◌, ◌/◌, ◌%◌, ◌^◌, Bool, true, false, cond, List, [], ◌∷◌, length, ◌==◌, bit_xor, slice_index}
+use Rattle.std.specs.Prelude.{ℕ, zero, suc, ◌+◌, ◌-◌, ◌*◌, ◌/◌, ◌%◌, ◌^◌, cond, List, [], ◌∷◌, length, ◌==◌, bit_xor, slice_index}
 use Rattle.cipher.specs.Blocks.{blocks, chain}
 
 -- the number of a block of 16 bytes, the first on top

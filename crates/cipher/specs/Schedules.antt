@@ -1,9 +1,9 @@
 -- The round keys and the states, one after another.
-use Rattle.std.specs.Prelude.{◌≡◌, ℕ, zero, suc, ◌+◌, ◌<◌, ◌≤◌, min, List, [], ◌∷◌, ◌++◌, map, length, get_or, take, drop, refl}
-use Rattle.std.proofs.Common.{sym, ap, ◌∙◌, add-one, arith, length-append, length-take, length-drop}
+use Rattle.std.specs.Prelude.{◌≡◌, ℕ, zero, suc, ◌+◌, List, map, length, refl}
+use Rattle.std.proofs.Common.{◌∙◌, add-one, arith, length-append, length-take, length-drop}
 use Rattle.cipher.specs.Bytes.{xors}
 use Rattle.cipher.specs.Words.{length_xors}
-use Rattle.cipher.specs.Aes.{round_key, next_key, rcon, state, round, aes, word, turn, last_round, shift_rows, sub}
+use Rattle.cipher.specs.Aes.{round_key, next_key, rcon, state, round, aes, shift_rows, sub}
 
 pub round_key_none : (key : List ℕ) → round_key key 0 ≡ key
 unfolding round_key

@@ -3,8 +3,8 @@ use Rattle.std.specs.Prelude.{◌≡◌, ℕ, suc, ◌+◌, ◌-◌, ◌<◌, �
 use Rattle.std.proofs.Common.{sym, ap, ap₂, ◌∙◌, arith, length-append, length-take, eq-eqb, eqb-true}
 use Rattle.std.specs.Int.Bits.{xor_assoc, xor_self, xor_zero_r}
 use Rattle.std.proofs.lemmas.List.{take-append-drop, take_at, drop_at}
-use Rattle.std.proofs.lemmas.Bool.{and_parts, and_from, and_left, leb-true, le-leb, ltb-true}
-use Rattle.cipher.specs.Cipher.{Lawful, Usable}
+use Rattle.std.proofs.lemmas.Bool.{and_parts, and_from, leb-true, le-leb, ltb-true}
+use Rattle.cipher.specs.Cipher.{Lawful}
 use Rattle.cipher.specs.Sealing.{xor_from, same, sealed, contents, body_sized, opened, Fixed, has_fixed, first_unfixed, mode}
 
 xor_twice : (x k : ℕ) → bit_xor (bit_xor x k) k ≡ x

@@ -1,4 +1,6 @@
 // Block ciphers and packet ciphers, each behind one interface: AES-128, and CCM and GCM over any block cipher.
+#![tactic(auto)]
+
 mod aes;
 mod block;
 mod ccm;

@@ -1,4 +1,6 @@
 // The refusals of the whole product: each has a number, a layer and a place.
+#![tactic(auto)]
+
 ghost use Rattle.std.specs.Prelude.{◌≡◌, Some};
 ghost use Rattle.fault.specs.Refusals.{refusal, layer_name, refusal_text};
 

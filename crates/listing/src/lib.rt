@@ -1,4 +1,6 @@
 // The bench's listing: its lines read as events, and a row printed for each answer.
+#![tactic(auto)]
+
 mod lines;
 mod rows;
 

@@ -1,3 +1,5 @@
+#![tactic(auto)]
+
 // Storing steps, reads and power cuts, the same over the lent image, the scrambler, and a scrambler over a scrambler. What each
 // must answer was computed by a second model of a memory.
 #[cfg(test)]

@@ -4,7 +4,7 @@ use Rattle.std.proofs.lemmas.Bool.{cond-false, cond-true, false≢true, not-fals
 use Rattle.fault.specs.Checks.{check, then}
 use Rattle.fault.specs.declared.Fault.{Fault}
 use Rattle.fault.specs.declared.Fault.TheVariants.{Dark, OutsideMap}
-use Rattle.memory.specs.Meaning.{Meaning, Step, after, answer, answer_of, left_by, perform, performed, step_in_map}
+use Rattle.memory.specs.Meaning.{Meaning, Step, answer, answer_of, left_by, perform, performed, step_in_map}
 use Rattle.memory.specs.Supply.{lit}
 use Rattle.memory.proofs.Exits.{check_failed, check_passed}
 use Rattle.memory.proofs.OneStep.{Made, dark, made}

@@ -1,4 +1,6 @@
 // The memories of the board behind one interface: the map, the held record, the supply, storing steps and their loops.
+#![tactic(auto)]
+
 mod areas;
 mod held;
 mod lent;

@@ -1,4 +1,6 @@
 // pack: seals one packet into its frame, prints the frame, and opens it again.
+#![tactic(auto)]
+
 ghost use Rattle.std.specs.Prelude.{◌≡◌, false, is_ok};
 
 mod arguments;

@@ -1,4 +1,6 @@
 // The packer: seals one packet and writes the whole frame around it, over any packet cipher.
+#![tactic(auto)]
+
 mod pack;
 mod packet;
 

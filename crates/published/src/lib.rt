@@ -1,3 +1,5 @@
+#![tactic(auto)]
+
 // The published vectors, as tests: FIPS 197, the authors' test cases for GCM, and the worked commands of the protocol guide.
 #[cfg(test)]
 mod tests {

@@ -13,7 +13,7 @@ use Rattle.rules.specs.Memory.{data_key, kek, key_record}
 use Rattle.memory.specs.Areas.{first_outside, refused_at}
 use Rattle.rules.specs.declared.Command.{Command}
 use Rattle.rules.specs.declared.Command.TheVariants.{MassErase as mass_erase, Version as tell_version, Reset as reset, Data as data_packet, Key as key_packet, Unknown as unknown}
-use Rattle.rules.specs.Commands.{command, longer}
+use Rattle.rules.specs.Commands.{command}
 use Rattle.cipher.specs.Cipher.{Cipher, Lawful, Usable}
 use Rattle.rules.specs.Board.{State, Call, Deed, turns, clears, erases, stores, rekeys, powers, Heard, turned_away, part, garbled, framed, silence}
 use Rattle.rules.specs.Board.{question, power_up, heard, Packet, KeyPacket, fields, key_fields, slot, may_open, may_follow, in_order, judge_fields, judge_key_fields}

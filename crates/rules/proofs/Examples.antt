@@ -4,7 +4,6 @@ use lib.ListN.{length-replicate, get_or-replicate}
 use Rattle.std.proofs.lemmas.List.{get_or-set_same, get_or-set_other, append_cancel_left, length-append}
 use Rattle.std.proofs.lemmas.Bool.{leb-true, le-leb, cond-true, eqb-true, eq-eqb, ne_eqb}
 use Rattle.fault.specs.declared.Fault.TheVariants.{Dark, NotOpened, MayNotOpen, OldKey}
-use Rattle.fault.specs.Refusals.{refusal}
 use Rattle.memory.specs.declared.supply.Supply.TheVariants.{NoEnd, Steps}
 use Rattle.memory.specs.Areas.{place, all_areas}
 use Rattle.memory.specs.Meaning.{perform}

@@ -8,7 +8,7 @@ use Rattle.fault.specs.declared.Fault.{Fault}
 use Rattle.fault.specs.declared.Fault.TheVariants.{ReplyShort, WorkShort, Dark, UnknownCommand, PacketLength, BadIv, NotOpened, BadNumber, MayNotOpen, OutOfTurn}
 use Rattle.fault.specs.declared.Fault.TheVariants.{OutsideArea, BadKeyType, OldKey, NoHeader, BadChecksum, NoLength, TooLong}
 use Rattle.memory.specs.declared.supply.Supply.TheVariants.{Steps}
-use Rattle.memory.specs.Areas.{place, holds, first_outside, refused_at}
+use Rattle.memory.specs.Areas.{place, first_outside, refused_at}
 use Rattle.memory.specs.Held.{slot_place}
 use Rattle.cipher.specs.Cipher.{Cipher, Lawful, Usable}
 use Rattle.memory.proofs.Places.{map_below}

@@ -1,4 +1,6 @@
 // The rules of the board as a state machine, the three promises on whole runs, and laws that show what the words of the rules say.
+#![tactic(auto)]
+
 ghost use Rattle.std.specs.Prelude.{◌≡◌};
 ghost use Rattle.rules.specs.Arrival.{FramesArrive};
 ghost use Rattle.rules.specs.Board.{boot_number};

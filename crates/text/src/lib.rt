@@ -1,4 +1,6 @@
 // Numbers and bytes as text, for command lines and listings: hexadecimal and decimal read, bytes shown line by line.
+#![tactic(auto)]
+
 pub mod decimal;
 pub mod hex;
 pub mod lines;

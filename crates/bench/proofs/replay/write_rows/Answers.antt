@@ -1,14 +1,42 @@
-use Rattle.std.proofs.Common.{rules}
+use Rattle.std.proofs.Common.{◌≡◌, ℕ, ◌+◌, ◌<◌, ◌≤◌, List, [], ◌∷◌, ◌++◌, map, length, drop, get_or, sym, refl, ap, ap₂, ◌∙◌, arith}
+use Rattle.std.proofs.lemmas.List.{append_assoc, append-nil, at_drop_more, at_drop_all}
+use Rattle.rules.specs.Board.{Answer}
+use Rattle.board.specs.Answers.{answer_of}
+use Rattle.listing.specs.Rows.{row}
+use Rattle.bench.specs.Replaying.{next_number, number_behind, rows_from}
 use Rattle.bench.proofs.replay.write_rows.Goals as goal
 
--- src/replay.rt:30:5
 pub loop-answer-init : goal.loop-answer-init
-loop-answer-init c = ?
+loop-answer-init c = (refl, refl)
 
--- src/replay.rt:30:5
 pub loop-answer-preserved : goal.loop-answer-preserved
-loop-answer-preserved c = ?
+loop-answer-preserved c =
+    let i = c.loop-answer.answer-index in
+    let given = c.args.answers.now in
+    let x = c.answer-item.result in
+    let old = c.loop-answer.rows.items in
+    let n = c.loop-answer.next in
+    let h : i < length given = omega arith in
+    let left = map answer_of (drop (i + 1) given) in
+    let first : map answer_of (drop i given) ≡ answer_of x ∷ left =
+        at_drop_more (map answer_of) given i x h ∙ ap (λ y. answer_of y ∷ left) (sym c.answer-item.is) in
+    let shown = ap₂ (λ f b. record { refusal = f; sent = c.sent.result.now; said = b }) c.refusal.ensures c.boot.ensures
+    ∙ ap (λ bs. record { refusal = (answer_of x).refusal; sent = bs; said = (answer_of x).said }) c.sent.ensures in
+    let e = c.in_ok-write_row.ensures.items ∙ ap (λ a. old ++ row n a) shown in (
+      ap₂ (λ rs m. rs ++ rows_from m left) e c.number_after-next.ensures
+      ∙ append_assoc old (row n (answer_of x)) (rows_from (next_number n) left)
+      ∙ ap (λ zs. old ++ rows_from n zs) (sym first)
+      ∙ c.loop-answer.invariant.0,
+      ap (λ m. number_behind m left) c.number_after-next.ensures ∙ ap (number_behind n) (sym first) ∙ c.loop-answer.invariant.1,
+    )
 
--- src/replay.rt:26:1
 pub returns : goal.returns
-returns c = ?
+returns c =
+    let i = c.loop-answer.answer-index in
+    let given = c.args.answers.now in
+    let h : length given ≤ i = omega arith in
+    let none = at_drop_all (map answer_of) given i h in
+    record {
+      rows = sym (append-nil c.loop-answer.rows.items) ∙ ap (λ zs. c.loop-answer.rows.items ++ rows_from c.loop-answer.next zs) (sym none) ∙ c.loop-answer.invariant.0;
+      number = ap (number_behind c.loop-answer.next) (sym none) ∙ c.loop-answer.invariant.1;
+    }

@@ -1,4 +1,4 @@
-use Rattle.std.proofs.Common.{◌≡◌, sym, ap, ◌∙◌, inl, inr}
+use Rattle.std.proofs.Common.{sym, ap, ◌∙◌, inl, inr}
 use Rattle.memory.specs.Meaning.{Meaning, read_of}
 use Rattle.memory.specs.declared.held.Held.{Held}
 use Rattle.board.specs.Booting.{reads_blank}

@@ -1,4 +1,4 @@
-use Rattle.std.proofs.Common.{◌≡◌, List, Ok, Err, sym, refl, ap, ◌∙◌, ap₂}
+use Rattle.std.proofs.Common.{Ok, refl, ap, ◌∙◌, ap₂}
 use Rattle.memory.specs.Steps.{erase_steps}
 use Rattle.memory.proofs.Exits.{passed_on}
 use Rattle.board.specs.Outcomes.{lit_board}

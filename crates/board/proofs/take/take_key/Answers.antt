@@ -1,4 +1,4 @@
-use Rattle.std.proofs.Common.{◌≡◌, Ok, Err, sym, refl, ap, ◌∙◌, ap₂, arith}
+use Rattle.std.proofs.Common.{Ok, Err, refl, ap, ◌∙◌, ap₂, arith}
 use Rattle.memory.proofs.Exits.{passed_on}
 use Rattle.rules.specs.declared.Session.TheVariants.{Closed}
 use Rattle.rules.specs.Board.{key_steps}

@@ -1,4 +1,4 @@
-use Rattle.std.proofs.Common.{◌≡◌, ℕ, ◌+◌, ◌<◌, ◌≢◌, length, get_or, set, replicate, sym, refl, ap, ◌∙◌, subst, ap₂, arith, get_or-set_other, get_or-set_same, rules, below_more}
+use Rattle.std.proofs.Common.{◌≡◌, ℕ, ◌+◌, ◌<◌, ◌≢◌, length, get_or, set, replicate, sym, refl, ap, ◌∙◌, subst, arith, get_or-set_other, get_or-set_same, rules, below_more}
 use Rattle.cipher.specs.Aes.{round_key, next_key, rcon}
 use Rattle.cipher.specs.Columns.{flat, no_columns}
 use Rattle.cipher.specs.Schedules.{round_key_none, round_key_more}

@@ -1,4 +1,4 @@
-use Rattle.std.proofs.Common.{◌∙◌, arith, rules}
+use Rattle.std.proofs.Common.{◌∙◌, rules}
 use Rattle.cipher.proofs.Streams.{xors_more, xors_all}
 use Rattle.cipher.proofs.mode.add_into.Goals as goal
 

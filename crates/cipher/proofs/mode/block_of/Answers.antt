@@ -1,4 +1,4 @@
-use Rattle.std.proofs.Common.{◌≡◌, ◌-◌, ◌*◌, length, take, drop, ap, ◌∙◌, arith, length-drop, rules}
+use Rattle.std.proofs.Common.{◌≡◌, ◌-◌, ◌*◌, length, drop, ◌∙◌, arith, length-drop, rules}
 use Rattle.std.proofs.lemmas.List.{take_all}
 use Rattle.cipher.proofs.Streams.{short_block}
 use Rattle.cipher.proofs.mode.block_of.Goals as goal

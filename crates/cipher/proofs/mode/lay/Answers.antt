@@ -1,4 +1,4 @@
-use Rattle.std.proofs.Common.{◌≡◌, ◌-◌, length, replicate, refl, ap, ◌∙◌, arith, rules}
+use Rattle.std.proofs.Common.{length, replicate, refl, ap, ◌∙◌, rules}
 use Rattle.cipher.proofs.Streams.{laid_work}
 use Rattle.cipher.proofs.mode.lay.Goals as goal
 

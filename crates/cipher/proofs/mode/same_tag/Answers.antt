@@ -1,4 +1,4 @@
-use Rattle.std.proofs.Common.{◌∙◌, ap₂, arith, rules}
+use Rattle.std.proofs.Common.{◌∙◌, ap₂, rules}
 use Rattle.std.proofs.lemmas.List.{take_all}
 use Rattle.cipher.specs.Sealing.{same}
 use Rattle.cipher.proofs.Streams.{same_more}

@@ -1,7 +1,6 @@
 use Rattle.std.proofs.Common.{Ok, sym, ap, ◌∙◌}
 use Rattle.fault.specs.Checks.{then}
-use Rattle.memory.specs.Meaning.{after, read_of}
-use Rattle.memory.specs.Meaning.Step.{store}
+use Rattle.memory.specs.Meaning.{read_of}
 use Rattle.memory.proofs.Exits.{passed_on}
 use Rattle.memory.proofs.StoredBack.{stored_back, stored_read}
 use Rattle.memory.proofs.memory.store_and_read.Goals as goal

@@ -1,11 +1,11 @@
-use Rattle.std.proofs.Common.{◌≡◌, ℕ, ◌+◌, ◌-◌, ◌≤◌, true, ◌&&◌, leb, List, ◌++◌, length, Ok, sym, refl, ap, ◌∙◌, ap₂, arith}
+use Rattle.std.proofs.Common.{◌≡◌, ℕ, ◌+◌, ◌-◌, true, ◌&&◌, leb, List, length, Ok, sym, refl, ap, ◌∙◌, ap₂, arith}
 use borrow.Rule.Slice.PartMut.{put_mid}
 use Rattle.std.proofs.lemmas.Bool.{and_from, le-leb}
 use Rattle.cipher.specs.Cipher.{Usable}
 use Rattle.packer.specs.Packets.{data_header, data_contents}
 use Rattle.packer.specs.Packing.{frame_length, laid}
 use Rattle.packer.proofs.Packs.{formed, data_passes, length_packed, over_packed, opens_back}
-use Rattle.packer.proofs.Places.{put, put_next}
+use Rattle.packer.proofs.Places.{put_next}
 use Rattle.packer.proofs.pack.pack_data.Goals as goal
 
 pub returns : goal.returns

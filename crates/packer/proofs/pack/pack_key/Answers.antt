@@ -5,7 +5,7 @@ use Rattle.cipher.specs.Cipher.{Usable}
 use Rattle.packer.specs.Packets.{key_contents}
 use Rattle.packer.specs.Packing.{frame_length, laid}
 use Rattle.packer.proofs.Packs.{formed, key_passes, length_packed, over_packed, opens_back}
-use Rattle.packer.proofs.Places.{put, put_two, put_next}
+use Rattle.packer.proofs.Places.{put_two, put_next}
 use Rattle.packer.proofs.pack.pack_key.Goals as goal
 
 pub returns : goal.returns

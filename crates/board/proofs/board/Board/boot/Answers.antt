@@ -1,7 +1,7 @@
-use Rattle.std.proofs.Common.{◌≡◌, [], sym, refl, ap, ◌∙◌}
+use Rattle.std.proofs.Common.{[], ap, ◌∙◌}
 use Rattle.memory.proofs.Exits.{passed_on}
 use Rattle.board.specs.Outcomes.{board_with}
-use Rattle.rules.specs.Board.{Outcome, boot, enact, refuses, says}
+use Rattle.rules.specs.Board.{Outcome, enact, refuses, says}
 use Rattle.board.specs.Answers.{boot_answer}
 use Rattle.board.specs.Reading.{receiver_of}
 use Rattle.board.specs.State.{state_of}

@@ -1,4 +1,4 @@
-use Rattle.std.proofs.Common.{◌≡◌, ◌<◌, ◌≤◌, length, sym, refl, ap, ◌∙◌, arith}
+use Rattle.std.proofs.Common.{◌<◌, ◌≤◌, length, refl, ap, ◌∙◌, arith}
 use Rattle.wire.specs.Frame.{over}
 use Rattle.board.specs.Outcomes.{board_with}
 use Rattle.rules.specs.Board.{Outcome}

@@ -1,4 +1,4 @@
-use Rattle.std.proofs.Common.{◌≡◌, take, Ok, sym, refl, ap, ◌∙◌}
+use Rattle.std.proofs.Common.{take, Ok, sym, refl, ap, ◌∙◌}
 use Rattle.memory.proofs.Exits.{passed_on}
 use Rattle.rules.specs.Receiver.{read}
 use Rattle.board.specs.Reading.{answer_of, left_by, receiver_of}

@@ -1,4 +1,4 @@
-use Rattle.std.proofs.Common.{◌≡◌, false, ap, ◌∙◌}
+use Rattle.std.proofs.Common.{false, ap, ◌∙◌}
 use Rattle.board.specs.Outcomes.{board_with, lit_board}
 use Rattle.rules.specs.declared.Session.TheVariants.{Closed}
 use Rattle.rules.specs.Board.{fresh}

@@ -1,4 +1,4 @@
-use Rattle.std.proofs.Common.{◌≡◌, false, refl, ap, ◌∙◌, ap₂}
+use Rattle.std.proofs.Common.{false, ap, ◌∙◌, ap₂}
 use Rattle.board.specs.Outcomes.{board_with}
 use Rattle.rules.specs.declared.Session.TheVariants.{Closed}
 use Rattle.rules.specs.Board.{Outcome, enact}

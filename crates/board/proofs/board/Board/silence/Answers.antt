@@ -1,4 +1,4 @@
-use Rattle.std.proofs.Common.{◌≡◌, [], sym, refl, ap, ◌∙◌, ap₂}
+use Rattle.std.proofs.Common.{[], ap, ◌∙◌}
 use Rattle.memory.proofs.Exits.{passed_on}
 use Rattle.board.specs.Outcomes.{board_with}
 use Rattle.rules.specs.Board.{Outcome, enact, refuses}

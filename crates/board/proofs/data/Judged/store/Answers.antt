@@ -1,4 +1,4 @@
-use Rattle.std.proofs.Common.{◌≡◌, ◌+◌, ◌-◌, ◌≤◌, ◌++◌, length, take, drop, Ok, refl, ap, ◌∙◌, arith}
+use Rattle.std.proofs.Common.{◌++◌, Ok, refl, ap, ◌∙◌, arith}
 use Rattle.fault.specs.Checks.{then}
 use Rattle.memory.specs.Steps.{store_up}
 use Rattle.memory.proofs.Exits.{passed_on}

@@ -1,4 +1,4 @@
-use Rattle.std.proofs.Common.{refl, rules}
+use Rattle.std.proofs.Common.{rules}
 use Rattle.rules.specs.Board.{may_follow}
 use Rattle.board.proofs.data.Opened.may_follow.Goals as goal
 

@@ -1,4 +1,4 @@
-use Rattle.std.proofs.Common.{◌≡◌, length, sym, ap, ◌∙◌, arith}
+use Rattle.std.proofs.Common.{length, sym, ap, ◌∙◌, arith}
 use Rattle.wire.specs.Frame.{frame, over}
 use Rattle.board.specs.Sending.{sent_of}
 use Rattle.board.proofs.reply.Reply.write.Goals as goal

@@ -1,6 +1,6 @@
-use Rattle.std.proofs.Common.{◌≡◌, ◌+◌, get_or, sym, refl, ap, ◌∙◌, ap₂, arith, rules}
+use Rattle.std.proofs.Common.{◌≡◌, ◌+◌, get_or, sym, ap, ◌∙◌, ap₂, arith}
 use Rattle.cipher.specs.Bytes.{xors}
-use Rattle.cipher.specs.Aes.{aes, round, last_round, round_key, state}
+use Rattle.cipher.specs.Aes.{aes, round, last_round, state}
 use Rattle.cipher.specs.Columns.{flat, no_columns}
 use Rattle.cipher.specs.Schedules.{state_none, state_more, round_key_none}
 use Rattle.cipher.proofs.aes.Aes128.encrypted.Goals as goal

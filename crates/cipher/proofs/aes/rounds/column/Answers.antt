@@ -1,4 +1,4 @@
-use Rattle.std.proofs.Common.{◌≡◌, [], ◌∷◌, ap, ◌∙◌, ap₂, rules}
+use Rattle.std.proofs.Common.{ap, ◌∙◌, ap₂, rules}
 use lib.Bits.{bit_xor}
 use Rattle.cipher.specs.Bytes.{xors, word_bytes}
 use Rattle.cipher.specs.Words.{word_bytes_xor, rotated8, rotated16, rotated24}

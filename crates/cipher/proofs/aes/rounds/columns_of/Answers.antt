@@ -1,4 +1,4 @@
-use Rattle.std.proofs.Common.{◌≡◌, sym, refl, ap, ◌∙◌, arith, rules}
+use Rattle.std.proofs.Common.{◌∙◌, rules}
 use Rattle.cipher.proofs.Flats.{join4, all_words}
 use Rattle.cipher.proofs.aes.rounds.columns_of.Goals as goal
 

@@ -1,4 +1,4 @@
-use Rattle.std.proofs.Common.{◌≡◌, [], ◌∷◌, sym, refl, ap, ◌∙◌, rules}
+use Rattle.std.proofs.Common.{◌≡◌, [], ◌∷◌, ap, ◌∙◌, rules}
 use Rattle.cipher.specs.Bytes.{xors, word_bytes}
 use Rattle.cipher.specs.Words.{word_bytes_xor, word_bytes_of}
 use Rattle.cipher.specs.Aes.{sub}

@@ -1,8 +1,7 @@
-use Rattle.std.proofs.Common.{◌≡◌, sym, refl, ap, ◌∙◌}
+use Rattle.std.proofs.Common.{ap, ◌∙◌}
 use lib.Bits.{bit_xor}
 use Rattle.cipher.specs.Bytes.{xors, word_bytes}
 use Rattle.cipher.specs.Words.{word_bytes_xor}
-use Rattle.cipher.specs.Aes.{turn}
 use Rattle.cipher.proofs.Flats.{join4}
 use Rattle.cipher.proofs.aes.rounds.next_round_key.Goals as goal
 

@@ -1,4 +1,4 @@
-use Rattle.std.proofs.Common.{◌≡◌, [], ◌∷◌, sym, refl, ap, ◌∙◌, rules}
+use Rattle.std.proofs.Common.{◌≡◌, ap, ◌∙◌, rules}
 use lib.Bits.{bit_xor, xor_lt}
 use Rattle.cipher.specs.Bytes.{word_bytes}
 use Rattle.cipher.specs.Words.{word_bytes_of}

@@ -1,5 +1,5 @@
-use Rattle.std.proofs.Common.{◌≡◌, ◌+◌, ◌*◌, get_or, sym, refl, ap, ◌∙◌, arith, rules}
-use Rattle.cipher.specs.Bytes.{xors, word_bytes}
+use Rattle.std.proofs.Common.{◌+◌, ◌*◌, get_or, sym, ap, ◌∙◌, arith, rules}
+use Rattle.cipher.specs.Bytes.{word_bytes}
 use Rattle.cipher.specs.Words.{word_bytes_of}
 use Rattle.cipher.proofs.Flats.{four}
 use Rattle.cipher.proofs.aes.rounds.word_at.Goals as goal

@@ -1,4 +1,4 @@
-use Rattle.std.proofs.Common.{◌≡◌, ◌-◌, ◌++◌, length, take, drop, ap, ◌∙◌, ap₂, arith, length-append, length-drop, length-take, rules}
+use Rattle.std.proofs.Common.{◌≡◌, ◌-◌, ◌++◌, length, take, drop, ◌∙◌, ap₂, arith, length-append, length-drop, rules}
 use Rattle.cipher.specs.Ccm.{ccm_stream, ccm_tag}
 use Rattle.cipher.specs.Sealing.{xor_from}
 use Rattle.cipher.proofs.Opens.{seal_work}

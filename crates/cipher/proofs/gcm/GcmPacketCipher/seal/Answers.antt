@@ -1,4 +1,4 @@
-use Rattle.std.proofs.Common.{◌≡◌, ◌-◌, ◌++◌, length, take, drop, ap, ◌∙◌, ap₂, arith, length-append, length-drop, length-take, rules}
+use Rattle.std.proofs.Common.{◌≡◌, ◌-◌, ◌++◌, length, take, drop, ap, ◌∙◌, ap₂, arith, length-append, length-drop, length-take}
 use Rattle.cipher.specs.Gcm.{gcm_stream, gcm_tag, gcm_mac}
 use Rattle.cipher.specs.Sealing.{xor_from}
 use Rattle.cipher.specs.Schemes.{length_xor_from}
