@@ -1,4 +1,6 @@
 // bench: reads a listing of calls from standard input, makes them on a fresh board, and prints a row for each line.
+#![tactic(auto)]
+
 mod input;
 mod replay;
 

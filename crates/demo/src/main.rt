@@ -1,4 +1,6 @@
 // demo: packs an update, sends it to a fresh board, cuts the power in the middle, and tells what the board says on the way.
+#![tactic(auto)]
+
 ghost use Rattle.std.specs.Prelude.{◌≡◌, false, is_ok};
 
 use anyhow::anyhow;

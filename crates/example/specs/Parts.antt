@@ -1,5 +1,5 @@
 -- The parts of the example update.
-use Rattle.std.specs.Prelude.{ℕ, ◌/◌, ◌%◌, cond, List, [], ◌∷◌, ◌++◌, replicate, ◌==◌, nat_lt}
+use Rattle.std.specs.Prelude.{ℕ, cond, List, [], ◌∷◌, ◌++◌, replicate, ◌==◌, nat_lt}
 use Rattle.cipher.specs.Aes.{aes}
 use Rattle.cipher.specs.Ccm.{ccm}
 use Rattle.packer.specs.Packets.{address_bytes, word}

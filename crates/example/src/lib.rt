@@ -1,4 +1,6 @@
 // An example update for demonstrations: three packets of firmware, packed with CCM, and the calls that send a frame.
+#![tactic(auto)]
+
 mod frame;
 mod sending;
 mod update;

@@ -1,6 +1,5 @@
-use Rattle.std.proofs.Common.{◌≡◌, ℕ, ◌+◌, ◌<◌, ◌≤◌, List, [], ◌∷◌, ◌++◌, map, length, drop, get_or, sym, refl, ap, ap₂, ◌∙◌, arith}
+use Rattle.std.proofs.Common.{◌≡◌, ◌+◌, ◌<◌, ◌≤◌, ◌∷◌, ◌++◌, map, length, drop, sym, refl, ap, ap₂, ◌∙◌, arith}
 use Rattle.std.proofs.lemmas.List.{append_assoc, append-nil, at_drop_more, at_drop_all}
-use Rattle.rules.specs.Board.{Answer}
 use Rattle.board.specs.Answers.{answer_of}
 use Rattle.listing.specs.Rows.{row}
 use Rattle.bench.specs.Replaying.{next_number, number_behind, rows_from}
@@ -19,14 +18,14 @@ loop-answer-preserved c =
     let h : i < length given = omega arith in
     let left = map answer_of (drop (i + 1) given) in
     let first : map answer_of (drop i given) ≡ answer_of x ∷ left =
-        at_drop_more (map answer_of) given i x h ∙ ap (λ y. answer_of y ∷ left) (sym c.answer-item.is) in
+    at_drop_more (map answer_of) given i x h ∙ ap (λ y. answer_of y ∷ left) (sym c.answer-item.is) in
     let shown = ap₂ (λ f b. record { refusal = f; sent = c.sent.result.now; said = b }) c.refusal.ensures c.boot.ensures
     ∙ ap (λ bs. record { refusal = (answer_of x).refusal; sent = bs; said = (answer_of x).said }) c.sent.ensures in
     let e = c.in_ok-write_row.ensures.items ∙ ap (λ a. old ++ row n a) shown in (
       ap₂ (λ rs m. rs ++ rows_from m left) e c.number_after-next.ensures
-      ∙ append_assoc old (row n (answer_of x)) (rows_from (next_number n) left)
-      ∙ ap (λ zs. old ++ rows_from n zs) (sym first)
-      ∙ c.loop-answer.invariant.0,
+          ∙ append_assoc old (row n (answer_of x)) (rows_from (next_number n) left)
+          ∙ ap (λ zs. old ++ rows_from n zs) (sym first)
+          ∙ c.loop-answer.invariant.0,
       ap (λ m. number_behind m left) c.number_after-next.ensures ∙ ap (number_behind n) (sym first) ∙ c.loop-answer.invariant.1,
     )
 

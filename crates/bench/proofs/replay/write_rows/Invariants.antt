@@ -1,5 +1,4 @@
-use Rattle.std.proofs.Common.{◌≡◌, List, ◌++◌, map, drop}
-use Rattle.rules.specs.Board.{Answer}
+use Rattle.std.proofs.Common.{◌≡◌, ◌++◌, map, drop}
 use Rattle.board.specs.Answers.{answer_of}
 use Rattle.bench.specs.Replaying.{number_behind, rows_from}
 use Rattle.bench.proofs.replay.write_rows.Given as goal
