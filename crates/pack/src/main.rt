@@ -12,6 +12,7 @@ use arguments::{Mode, data_arguments, key_arguments};
 use cipher::{Aes128, BlockCipher, Ccm, Gcm};
 use report::{report_data, report_key};
 use std::env;
+use std::process::ExitCode;
 use text::hex::hex_bytes;
 use usage::{Argument, Form};
 
@@ -71,17 +72,25 @@ fn key(rt: &HostRuntime, words: &Vec<String>) -> anyhow::Result<()> {
     }
 }
 
-fn main(rt: HostRuntime) -> anyhow::Result<()> {
+fn run(rt: &HostRuntime) -> anyhow::Result<()> {
     let mut words = Vec::new(rt.alloc());
-    for word in env::args(&rt)? {
+    for word in env::args(rt)? {
         words.push(word)?;
     }
     if words.len() < 2 {
-        return malformed(&rt, Form::Unknown, Argument::Command);
+        return malformed(rt, Form::Unknown, Argument::Command);
     }
     match words[1].as_str() {
-        "data" => data(&rt, &words),
-        "key" => key(&rt, &words),
-        _ => malformed(&rt, Form::Unknown, Argument::Command),
+        "data" => data(rt, &words),
+        "key" => key(rt, &words),
+        _ => malformed(rt, Form::Unknown, Argument::Command),
+    }
+}
+
+// What is refused or malformed has been told where it was found; here only the status is left to say.
+fn main(rt: HostRuntime) -> ExitCode {
+    match run(&rt) {
+        Ok(()) => ExitCode::SUCCESS,
+        Err(_) => ExitCode::FAILURE,
     }
 }
