@@ -66,7 +66,7 @@ fn print_rows<M: Memory>(rt: &HostRuntime, bench: &mut Bench<M>) -> anyhow::Resu
 }
 
 // Replays a listing on a board over a memory.
-pub fn replay_input<M: Memory + Drop>(rt: &HostRuntime, memory: M) -> anyhow::Result<()> {
+pub(crate) fn replay_input<M: Memory + Drop>(rt: &HostRuntime, memory: M) -> anyhow::Result<()> {
     let mut bench = Bench {
         board: Board::new(memory),
         events: Vec::new(rt.alloc()),
