@@ -2,15 +2,18 @@
 # make test   the gate: what the programs print and refuse, then rt ci (its last line: 'N passed, 0 failed')
 .PHONY: demo test
 
+# any packet that pack packs
+packet = data ccm 000102030405060708090A0B0C0D0E0F 01000000000000000000000000010000 7 1 1 0x4400 00
+
 demo:
 	@echo "Proving the programs pack and demo and what they stand on (from nothing, some minutes) .."
-	@sh tests/build.sh pack data ccm 000102030405060708090A0B0C0D0E0F 01000000000000000000000000010000 7 1 1 0x4400 00
+	@sh tests/build.sh pack $(packet)
 	@sh tests/build.sh demo
 	@sh tests/demo.sh
 
 test:
 	sh tests/expected.sh
-	sh tests/build.sh pack data ccm 000102030405060708090A0B0C0D0E0F 01000000000000000000000000010000 7 1 1 0x4400 00
+	sh tests/build.sh pack $(packet)
 	sh tests/refusals.sh
 	sh tests/refused.sh
 	sh tests/gate.sh

@@ -9,7 +9,7 @@ use Rattle.memory.specs.declared.held.Held.{Held}
 use Rattle.rules.specs.Packets.{iv_of, body_of}
 use Rattle.rules.specs.Memory.{data_key}
 use Rattle.rules.specs.declared.Session.{Session}
-use Rattle.rules.specs.Board.{Packet, fields, judge_data, judge_fields, on_opened, word}
+use Rattle.rules.specs.Board.{Packet, State, fields, judge_data, judge_fields, on_opened, word}
 use Rattle.rules.proofs.Deeds.{fields_passed}
 use Rattle.board.specs.declared.data.Judged.{Judged}
 use Rattle.board.specs.declared.data.Opened.{Opened}
@@ -35,9 +35,9 @@ packet_lies x work c e h =
     ∙ ap (λ o. packet_with o (drop o.place c)) h
 
 -- judging looks at the session and the held record alone
-by_fields : (m : Meaning) (n : Session) (p : Packet) → judge_fields (lit_board m n) p ≡ judge_by n m.contents.held p
+by_fields : (s : State) (p : Packet) → judge_fields s p ≡ judge_by s.session s.contents.held p
 unfolding judge_fields
-by_fields m n p = refl
+by_fields s p = refl
 
 -- a core command of the wrong length
 pub data_unsized : (C : Cipher) (m : Meaning) (n : Session) (core : List ℕ) (f : Fault) → data_sized core ≡ Err f → judge_data C (lit_board m n) core ≡ Err f
@@ -87,5 +87,5 @@ module _ (C : Cipher) (m : Meaning) (n : Session) (core : List ℕ) (held : Held
     data_passes j e =
         let p = under_passed j.opened x (judge_data C (lit_board m n) core) e in
         let q = p.0 in
-        let fit = fields_passed (lit_board m n) (fields contents) q (by_fields m n (fields contents) ∙ sym (ap (λ h. judge_by n h (fields contents)) same) ∙ sym (judged_by ∙ both.1) ∙ p.1.0) in
+        let fit = fields_passed (lit_board m n) (fields contents) q (by_fields (lit_board m n) (fields contents) ∙ sym (ap (λ h. judge_by n h (fields contents)) same) ∙ sym (judged_by ∙ both.1) ∙ p.1.0) in
         (q, (p.1.0, ap (λ o. packet_in o work) p.1.1 ∙ packet_lies x work contents refl both.0 ∙ fit.0, p.1.1))

@@ -10,7 +10,7 @@ use Rattle.memory.specs.declared.held.Held.{Held}
 use Rattle.rules.specs.Packets.{iv_of, body_of}
 use Rattle.rules.specs.Memory.{kek}
 use Rattle.rules.specs.declared.Session.{Session}
-use Rattle.rules.specs.Board.{KeyPacket, judge_key, judge_key_fields, key_fields, key_steps, on_opened, slot}
+use Rattle.rules.specs.Board.{KeyPacket, State, judge_key, judge_key_fields, key_fields, key_steps, on_opened, slot}
 use Rattle.rules.proofs.Deeds.{key_fields_passed}
 use Rattle.board.specs.declared.key.JudgedKey.{JudgedKey}
 use Rattle.board.specs.declared.key.OpenedKey.{OpenedKey}
@@ -42,9 +42,9 @@ step_lies j q work e k =
     ap (λ x. key_step x work) e ∙ ap (λ x. set_key (slot q.kt) (record { key = x; version = q.kv }) ∷ []) (sym k)
 
 -- judging looks at the held record alone
-by_key_fields : (m : Meaning) (n : Session) (p : KeyPacket) → judge_key_fields (lit_board m n) p ≡ judge_key_by m.contents.held p
+by_key_fields : (s : State) (p : KeyPacket) → judge_key_fields s p ≡ judge_key_by s.contents.held p
 unfolding judge_key_fields
-by_key_fields m n p = refl
+by_key_fields s p = refl
 
 -- a core command of the wrong length
 pub key_unsized : (C : Cipher) (m : Meaning) (n : Session) (core : List ℕ) (f : Fault) → key_sized core ≡ Err f → judge_key C (lit_board m n) core ≡ Err f
@@ -93,5 +93,5 @@ module _ (C : Cipher) (m : Meaning) (n : Session) (core : List ℕ) (held : Held
     key_passes j e =
         let p = judged_passed 2 j (judge_key C (lit_board m n) core) e in
         let q = p.0 in
-        let fit = key_fields_passed (lit_board m n) packet q (by_key_fields m n packet ∙ sym (ap (λ h. judge_key_by h packet) same) ∙ sym (judged_by ∙ both.1) ∙ p.1.0) in
+        let fit = key_fields_passed (lit_board m n) packet q (by_key_fields (lit_board m n) packet ∙ sym (ap (λ h. judge_key_by h packet) same) ∙ sym (judged_by ∙ both.1) ∙ p.1.0) in
         (q, (p.1.0, step_lies j q work p.1.1 (ap (λ (k : KeyPacket). k.key) (sym fit.0) ∙ key_lies work), ap (λ (i : JudgedKey). i.place) p.1.1))

@@ -1,5 +1,5 @@
 // The parts of the example update. Each version has bytes of its own, so that a mixture of two can be seen.
-ghost use Rattle.std.specs.Prelude.{◌≡◌, IfOk};
+ghost use Rattle.std.specs.Prelude.{◌≡◌, ◌≤◌, true, length, is_ok, IfOk};
 ghost use Rattle.wire.specs.Frame.{frame};
 ghost use Rattle.example.specs.Frames.{frame_bytes};
 ghost use Rattle.example.specs.Parts.{part_address, part_bytes, part_iv, part_packet};
@@ -14,7 +14,8 @@ pub const COUNT: u8 = 3;
 
 // Where the bytes of a part go: the start of the lower area, behind that, or the reset vector.
 fn address_of(number: u8) -> u32
-    ensures { result ≡ part_address number }
+    ensures value { result ≡ part_address number }
+    ensures low { result ≤ 0xFFFFFF }
 {
     match number {
         1 => 0x4400,
@@ -30,9 +31,12 @@ fn iv_of(version: u8, number: u8) -> [u8; 16]
     [1, version, number, 0, 0, 0, 0, 0, 0, 0, 0, 0, 0, 0, 0, 0]
 }
 
-// Packs bytes as part `number` of a version.
+// Packs 1 to 256 bytes as part `number` of a version.
 fn pack_bytes(key: &[u8; 16], version: u8, number: u8, bytes: &[u8]) -> Result<Frame, Fault>
-    ensures { IfOk result (λ f. frame_bytes f ≡ frame (part_packet key.now version number bytes.now)) }
+    requires some { 1 ≤ length bytes.now }
+    requires most { length bytes.now ≤ 256 }
+    ensures packed { is_ok result ≡ true }
+    ensures made { IfOk result (λ f. frame_bytes f ≡ frame (part_packet key.now version number bytes.now)) }
 {
     let packet = DataPacket {
         version,
@@ -52,7 +56,8 @@ fn pack_bytes(key: &[u8; 16], version: u8, number: u8, bytes: &[u8]) -> Result<F
 
 // Packs part `number` of a version of the update, under a data key: 256 bytes of the version's number twice, then the reset vector.
 pub fn pack_part(key: &[u8; 16], version: u8, number: u8) -> Result<Frame, Fault>
-    ensures { IfOk result (λ f. frame_bytes f ≡ frame (part_packet key.now version number (part_bytes version number))) }
+    ensures packed { is_ok result ≡ true }
+    ensures made { IfOk result (λ f. frame_bytes f ≡ frame (part_packet key.now version number (part_bytes version number))) }
 {
     if number < COUNT {
         pack_bytes(key, version, number, &[version; 256])
