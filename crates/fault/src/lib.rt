@@ -4,6 +4,7 @@
 ghost use Rattle.std.specs.Prelude.{◌≡◌, Some};
 ghost use Rattle.fault.specs.Refusals.{refusal, layer_name, refusal_text};
 
+use std::error::Error;
 use std::fmt;
 
 // The part that refused.
@@ -180,3 +181,5 @@ impl fmt::Display for Fault {
         write!(f, "{number}, layer {layer}, place {place}")
     }
 }
+
+impl Error for Fault {}
