@@ -1,5 +1,5 @@
 -- A part of the example update is packed without fail.
-use Rattle.std.proofs.Common.{◌≡◌, ℕ, ◌+◌, ◌≤◌, leb, List, length, take, drop, Ok, Err, Result, Bor, sym, ap, ◌∙◌, arith}
+use Rattle.std.proofs.Common.{◌≡◌, ℕ, ◌+◌, ◌≤◌, leb, List, length, take, drop, Ok, Result, Bor, sym, ap, ◌∙◌, arith}
 use Rattle.std.proofs.lemmas.Bool.{and_from, le-leb}
 use Rattle.std.proofs.lemmas.List.{take_at}
 use Rattle.fault.specs.Checks.{check, then}
@@ -27,10 +27,6 @@ packs key iv v n p i l h a =
     ∙ ap (λ b. then (check b DataCount) (then (check (leb p.address 0xFFFFFF) OutsideMap) (then x f))) (and_from _ _ (le-leb 1 _ l) (le-leb _ 256 h))
     ∙ ap (λ b. then (check b OutsideMap) (then x f)) (le-leb _ _ a)
     ∙ ap (λ b. then (check b OutputShort) f) (le-leb _ _ (omega arith))
-
--- so it is not refused,
-pub not_refused : {A : Type 0} (r : Result (List ℕ) Fault) (f : List ℕ) (d : Fault) → r ≡ Ok f → Err d ≡ frame_length r → A
-not_refused r f d h e = let k : Err d ≡ Ok (length f) = e ∙ ap frame_length h in let z : ◌≡◌ {A = ℕ} 0 1 = cc in absurd (omega arith)
 
 -- and its frame stands at the output's front
 pub front : (r : Result (List ℕ) Fault) (f out after : List ℕ) (n : ℕ) → r ≡ Ok f → Ok n ≡ frame_length r → after ≡ laid r out → take n after ≡ f

@@ -5,14 +5,8 @@ use Rattle.packer.specs.Packets.{address_bytes, word}
 use Rattle.packer.specs.Packing.{packet}
 use Rattle.wire.specs.Frame.{frame}
 use Rattle.example.specs.Parts.{part_iv}
-use Rattle.example.proofs.Packing.{front, handed, not_refused, packs}
+use Rattle.example.proofs.Packing.{front, handed, packs}
 use Rattle.example.proofs.update.pack_bytes.Goals as goal
-
-pub returns-in_err-length : goal.returns-in_err-length
-returns-in_err-length c =
-    let p = handed c.args.version c.from.result c.from-2.result c.address_of.result c.args.bytes in
-    let packed = packs c.args.key.now c.iv_of-iv.result c.args.version c.args.number p c.iv_of-iv.ensures c.requires.some c.requires.most c.address_of.ensures.low in
-    not_refused _ _ _ packed c.in_err-length.ensures.answer
 
 pub returns-clause-made : goal.returns-clause-made
 returns-clause-made c =
