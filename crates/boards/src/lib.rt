@@ -23,10 +23,7 @@ mod tests {
 
     // The number of a refusal, or 0.
     fn number(refusal: Option<Fault>) -> u8 {
-        match refusal {
-            Some(fault) => fault.number(),
-            None => 0,
-        }
+        refusal.map_or(0, |fault| fault.number())
     }
 
     // Sends one byte; the call wipes the first 266 bytes of the work buffer and leaves the rest.

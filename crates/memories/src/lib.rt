@@ -15,27 +15,12 @@ mod tests {
     const DATA: [u8; 5] = [0x40, 0x41, 0x42, 0x43, 0x44];
 
     // A refusal by its number, or 0.
-    fn answers(rt: &impl Abort, r: Result<(), Fault>, refusal: u8) -> Result<(), Fail> {
-        match r {
-            Ok(()) => {
-                assert!(rt; refusal == 0);
-                Ok(())
-            },
-            Err(fault) => {
-                assert!(rt; fault.number() == refusal);
-                Ok(())
-            },
-        }
+    fn answers(rt: &impl Abort, r: Result<(), Fault>, refusal: u8) {
+        assert!(rt; r.err().map_or(0, |fault| fault.number()) == refusal);
     }
 
-    fn store<M: Memory>(
-        rt: &impl Abort,
-        m: &mut M,
-        address: u32,
-        value: u8,
-        refusal: u8,
-    ) -> Result<(), Fail> {
-        answers(rt, m.store(address, value), refusal)
+    fn store<M: Memory>(rt: &impl Abort, m: &mut M, address: u32, value: u8, refusal: u8) {
+        answers(rt, m.store(address, value), refusal);
     }
 
     fn shows<M: Memory>(rt: &impl Abort, m: &mut M, address: u32, value: u8) -> Result<(), Fail> {
@@ -43,14 +28,8 @@ mod tests {
         Ok(())
     }
 
-    fn outside<M: Memory>(rt: &impl Abort, m: &mut M, address: u32) -> Result<(), Fail> {
-        match m.read(address) {
-            Ok(_) => Err(Fail::new("read outside the map")),
-            Err(fault) => {
-                assert!(rt; fault.number() == 7);
-                Ok(())
-            },
-        }
+    fn outside<M: Memory>(rt: &impl Abort, m: &mut M, address: u32) {
+        assert!(rt; m.read(address) == Err(Fault::OutsideMap));
     }
 
     fn key<M: Memory>(
@@ -60,34 +39,22 @@ mod tests {
         byte: u8,
         version: u8,
         refusal: u8,
-    ) -> Result<(), Fail> {
+    ) {
         let record = KeyRecord {
             key: [byte; 16],
             version,
         };
-        answers(rt, m.set_key(slot, record), refusal)
+        answers(rt, m.set_key(slot, record), refusal);
     }
 
     // The first bytes of DATA, upward.
-    fn data<M: Memory>(
-        rt: &impl Abort,
-        m: &mut M,
-        address: u32,
-        count: usize,
-        refusal: u8,
-    ) -> Result<(), Fail> {
+    fn data<M: Memory>(rt: &impl Abort, m: &mut M, address: u32, count: usize, refusal: u8) {
         assert!(rt; count <= 5);
-        answers(rt, store_data(m, address, &DATA[0..count]), refusal)
+        answers(rt, store_data(m, address, &DATA[0..count]), refusal);
     }
 
-    fn left<M: Memory>(rt: &impl Abort, m: &mut M, steps: u32) -> Result<(), Fail> {
-        match m.supply() {
-            Supply::Steps(n) => {
-                assert!(rt; n == steps);
-                Ok(())
-            },
-            Supply::NoEnd => Err(Fail::new("a supply without end")),
-        }
+    fn left<M: Memory>(rt: &impl Abort, m: &mut M, steps: u32) {
+        assert!(rt; matches!(m.supply(), Supply::Steps(n) if n == steps));
     }
 
     fn held<M: Memory>(rt: &impl Abort, m: &mut M, version: u8, unfinished: bool) {
@@ -111,64 +78,63 @@ mod tests {
     // 0xFF everywhere.
     fn blank<M: Memory>(m: &mut M) -> Result<(), Fail> {
         for area in AREAS.iter() {
-            for address in area.first..area.last {
+            for address in area.first..=area.last {
                 m.store(address, 0xFF)?;
             }
-            m.store(area.last, 0xFF)?;
         }
         Ok(())
     }
 
     // Stores at the ends of the areas and outside them.
-    fn bounds<M: Memory>(rt: &impl Abort, m: &mut M) -> Result<(), Fail> {
-        store(rt, m, 0x17FF, 0x01, 7)?;
-        store(rt, m, 0x1800, 0x11, 0)?;
-        store(rt, m, 0x19FF, 0x12, 0)?;
-        store(rt, m, 0x1A00, 0x01, 7)?;
-        store(rt, m, 0x43FF, 0x01, 7)?;
-        store(rt, m, 0x4400, 0x13, 0)?;
-        store(rt, m, 0xEFFF, 0x14, 0)?;
-        store(rt, m, 0xF000, 0x01, 7)?;
-        store(rt, m, 0xFF7F, 0x01, 7)?;
-        store(rt, m, 0xFF80, 0x15, 0)?;
-        store(rt, m, 0xFFFE, 0x16, 0)?;
-        store(rt, m, 0xFFFF, 0x17, 0)?;
-        store(rt, m, 0x10000, 0x18, 0)?;
-        store(rt, m, 0x13FFF, 0x19, 0)?;
-        store(rt, m, 0x14000, 0x01, 7)?;
-        store(rt, m, 0xFFFFFFFF, 0x01, 7)
+    fn bounds<M: Memory>(rt: &impl Abort, m: &mut M) {
+        store(rt, m, 0x17FF, 0x01, 7);
+        store(rt, m, 0x1800, 0x11, 0);
+        store(rt, m, 0x19FF, 0x12, 0);
+        store(rt, m, 0x1A00, 0x01, 7);
+        store(rt, m, 0x43FF, 0x01, 7);
+        store(rt, m, 0x4400, 0x13, 0);
+        store(rt, m, 0xEFFF, 0x14, 0);
+        store(rt, m, 0xF000, 0x01, 7);
+        store(rt, m, 0xFF7F, 0x01, 7);
+        store(rt, m, 0xFF80, 0x15, 0);
+        store(rt, m, 0xFFFE, 0x16, 0);
+        store(rt, m, 0xFFFF, 0x17, 0);
+        store(rt, m, 0x10000, 0x18, 0);
+        store(rt, m, 0x13FFF, 0x19, 0);
+        store(rt, m, 0x14000, 0x01, 7);
+        store(rt, m, 0xFFFFFFFF, 0x01, 7);
     }
 
     // What stands there then.
     fn bounds_read<M: Memory>(rt: &impl Abort, m: &mut M) -> Result<(), Fail> {
-        outside(rt, m, 0x17FF)?;
+        outside(rt, m, 0x17FF);
         shows(rt, m, 0x1800, 0x11)?;
         shows(rt, m, 0x19FF, 0x12)?;
-        outside(rt, m, 0x1A00)?;
+        outside(rt, m, 0x1A00);
         shows(rt, m, 0x4400, 0x13)?;
         shows(rt, m, 0xEFFF, 0x14)?;
-        outside(rt, m, 0xF000)?;
+        outside(rt, m, 0xF000);
         shows(rt, m, 0xFF80, 0x15)?;
         shows(rt, m, 0xFFFE, 0x16)?;
         shows(rt, m, 0xFFFF, 0x17)?;
         shows(rt, m, 0x10000, 0x18)?;
         shows(rt, m, 0x13FFF, 0x19)?;
-        outside(rt, m, 0x14000)?;
+        outside(rt, m, 0x14000);
         shows(rt, m, 0x4401, 0xFF)
     }
 
     // The vector and the held record.
     fn records<M: Memory>(rt: &impl Abort, m: &mut M) -> Result<(), Fail> {
-        answers(rt, m.set_vector(0x34, 0x12), 0)?;
+        answers(rt, m.set_vector(0x34, 0x12), 0);
         shows(rt, m, 0xFFFE, 0x34)?;
         shows(rt, m, 0xFFFF, 0x12)?;
-        answers(rt, m.set_version(9, true), 0)?;
+        answers(rt, m.set_version(9, true), 0);
         held(rt, m, 9, true);
         keys(rt, m, 0x00, 0, 0x00, 0);
-        key(rt, m, KeySlot::Kek, 0x5A, 3, 0)?;
+        key(rt, m, KeySlot::Kek, 0x5A, 3, 0);
         held(rt, m, 9, true);
         keys(rt, m, 0x00, 0, 0x5A, 3);
-        key(rt, m, KeySlot::Data, 0xA5, 4, 0)?;
+        key(rt, m, KeySlot::Data, 0xA5, 4, 0);
         held(rt, m, 9, true);
         keys(rt, m, 0xA5, 4, 0x5A, 3);
         Ok(())
@@ -177,17 +143,17 @@ mod tests {
     // Two steps are kept, and then none; an address outside the map is refused as ever.
     fn cut<M: Memory>(rt: &impl Abort, m: &mut M) -> Result<(), Fail> {
         m.set_supply(Supply::Steps(2));
-        answers(rt, m.set_version(10, false), 0)?;
-        left(rt, m, 1)?;
-        store(rt, m, 0xF000, 0x01, 7)?;
-        left(rt, m, 1)?;
-        store(rt, m, 0x4400, 0x77, 0)?;
-        left(rt, m, 0)?;
-        store(rt, m, 0x4401, 0x78, 3)?;
-        answers(rt, m.set_version(11, true), 3)?;
-        answers(rt, m.set_vector(0x01, 0x02), 3)?;
-        key(rt, m, KeySlot::Data, 0x01, 9, 3)?;
-        left(rt, m, 0)?;
+        answers(rt, m.set_version(10, false), 0);
+        left(rt, m, 1);
+        store(rt, m, 0xF000, 0x01, 7);
+        left(rt, m, 1);
+        store(rt, m, 0x4400, 0x77, 0);
+        left(rt, m, 0);
+        store(rt, m, 0x4401, 0x78, 3);
+        answers(rt, m.set_version(11, true), 3);
+        answers(rt, m.set_vector(0x01, 0x02), 3);
+        key(rt, m, KeySlot::Data, 0x01, 9, 3);
+        left(rt, m, 0);
         held(rt, m, 10, false);
         keys(rt, m, 0xA5, 4, 0x5A, 3);
         Ok(())
@@ -198,9 +164,9 @@ mod tests {
         shows(rt, m, 0x4400, 0x77)?;
         shows(rt, m, 0x4401, 0xFF)?;
         shows(rt, m, 0xFFFE, 0x34)?;
-        store(rt, m, 0xF000, 0x01, 7)?;
+        store(rt, m, 0xF000, 0x01, 7);
         m.set_supply(Supply::Steps(3));
-        data(rt, m, 0x4500, 5, 3)?;
+        data(rt, m, 0x4500, 5, 3);
         shows(rt, m, 0x4500, 0x40)?;
         shows(rt, m, 0x4502, 0x42)?;
         shows(rt, m, 0x4503, 0xFF)
@@ -209,11 +175,11 @@ mod tests {
     // Data stored upward, also over the end of an area.
     fn data_stored<M: Memory>(rt: &impl Abort, m: &mut M) -> Result<(), Fail> {
         m.set_supply(Supply::NoEnd);
-        data(rt, m, 0x4500, 5, 0)?;
+        data(rt, m, 0x4500, 5, 0);
         shows(rt, m, 0x4504, 0x44)?;
-        data(rt, m, 0xEFFE, 3, 23)?;
+        data(rt, m, 0xEFFE, 3, 23);
         shows(rt, m, 0xEFFE, 0xFF)?;
-        data(rt, m, 0xFFFE, 4, 0)?;
+        data(rt, m, 0xFFFE, 4, 0);
         shows(rt, m, 0xFFFF, 0x41)?;
         shows(rt, m, 0x10001, 0x43)
     }
@@ -221,17 +187,17 @@ mod tests {
     // The first step of a mass erase blanks the vector; cut behind 64 steps, the erase has reached the lower area.
     fn erase_cut<M: Memory>(rt: &impl Abort, m: &mut M) -> Result<(), Fail> {
         m.set_supply(Supply::Steps(1));
-        answers(rt, mass_erase(m), 3)?;
+        answers(rt, mass_erase(m), 3);
         shows(rt, m, 0xFFFE, 0xFF)?;
         shows(rt, m, 0xFFFF, 0xFF)?;
         shows(rt, m, 0xFF80, 0x15)?;
         shows(rt, m, 0x4500, 0x40)?;
-        left(rt, m, 0)?;
+        left(rt, m, 0);
         m.set_supply(Supply::NoEnd);
-        data(rt, m, 0xFFFD, 3, 0)?;
-        data(rt, m, 0x4400, 2, 0)?;
+        data(rt, m, 0xFFFD, 3, 0);
+        data(rt, m, 0x4400, 2, 0);
         m.set_supply(Supply::Steps(64));
-        answers(rt, mass_erase(m), 3)?;
+        answers(rt, mass_erase(m), 3);
         shows(rt, m, 0xFFFD, 0xFF)?;
         shows(rt, m, 0x4400, 0xFF)?;
         shows(rt, m, 0x4401, 0x41)
@@ -240,8 +206,8 @@ mod tests {
     // A whole mass erase has 60,479 steps, and leaves info, the start of the table and the held record.
     fn erase<M: Memory>(rt: &impl Abort, m: &mut M) -> Result<(), Fail> {
         m.set_supply(Supply::Steps(60479));
-        answers(rt, mass_erase(m), 0)?;
-        left(rt, m, 0)?;
+        answers(rt, mass_erase(m), 0);
+        left(rt, m, 0);
         shows(rt, m, 0x1800, 0x11)?;
         shows(rt, m, 0xFF80, 0x15)?;
         shows(rt, m, 0x4500, 0xFF)?;
@@ -254,7 +220,7 @@ mod tests {
 
     fn all<M: Memory + Drop>(rt: &impl Abort, mut m: M) -> Result<(), Fail> {
         blank(&mut m)?;
-        bounds(rt, &mut m)?;
+        bounds(rt, &mut m);
         bounds_read(rt, &mut m)?;
         records(rt, &mut m)?;
         cut(rt, &mut m)?;
@@ -303,7 +269,7 @@ mod tests {
     fn other_sizes_are_refused(rt: HostRuntime) -> Result<(), Fail> {
         for n in [0usize, 61055, 61057] {
             let image = vec![in rt.alloc(); 0u8; n]?;
-            answers(&rt, sized(&image), 4)?;
+            answers(&rt, sized(&image), 4);
         }
         Ok(())
     }
