@@ -1,6 +1,8 @@
 // The held record: the firmware version, the unfinished mark and the key table.
 ghost use Rattle.std.specs.Prelude.{◌≡◌, ℕ, ◌≢◌, slice_index_or};
-ghost use Rattle.memory.specs.Held.{slot_place, held_key, fresh_held};
+ghost use Rattle.memory.specs.Held.{slot_place, slot_of, held_key, fresh_held};
+
+use fault::Fault;
 
 #[derive(Clone, Copy)]
 pub struct KeyRecord {
@@ -30,6 +32,21 @@ impl KeySlot {
         match self {
             KeySlot::Data => 0,
             KeySlot::Kek => 1,
+        }
+    }
+}
+
+// The slot of a key packet's type.
+impl TryFrom<u8> for KeySlot {
+    type Error = Fault;
+
+    ghost try_from_gives = { λ key_type outcome. outcome ≡ slot_of key_type };
+
+    fn try_from(key_type: u8) -> Result<KeySlot, Fault> {
+        match key_type {
+            0 => Ok(KeySlot::Data),
+            2 => Ok(KeySlot::Kek),
+            _ => Err(Fault::BadKeyType(key_type)),
         }
     }
 }
