@@ -4,20 +4,20 @@ ghost use Rattle.memory.specs.Held.{slot_place, slot_of, held_key, fresh_held};
 
 use fault::Fault;
 
-#[derive(Clone, Copy)]
+#[derive(Clone, Copy, PartialEq, Eq, Debug)]
 pub struct KeyRecord {
     pub key: [u8; 16],
     pub version: u8,
 }
 
 // The data key, or the key-encryption key.
-#[derive(Clone, Copy)]
+#[derive(Clone, Copy, PartialEq, Eq, Debug)]
 pub enum KeySlot {
     Data,
     Kek,
 }
 
-#[derive(Clone, Copy)]
+#[derive(Clone, Copy, PartialEq, Eq, Debug)]
 pub struct Held {
     pub version: u8,
     pub unfinished: bool,
