@@ -16,7 +16,7 @@ impl Area {
     pub fn holds(&self, address: u32) -> bool
         ensures { result ≡ holds self.now address }
     {
-        self.first <= address && address <= self.last
+        (self.first..=self.last).contains(&address)
     }
 
     pub fn size(&self) -> usize
