@@ -51,15 +51,6 @@ impl TryFrom<u8> for KeySlot {
     }
 }
 
-impl KeyRecord {
-    // Replaces a record that is lent.
-    fn replace(&mut self, record: KeyRecord)
-        ensures { self.new ≡ «record» }
-    {
-        *self = record;
-    }
-}
-
 impl Held {
     // What a new board holds: version 0, no mark, two keys of version 0.
     pub fn fresh(data: [u8; 16], kek: [u8; 16]) -> Held
@@ -87,7 +78,6 @@ impl Held {
         ensures version { self.new.version ≡ self.old.version }
         ensures mark { self.new.unfinished ≡ self.old.unfinished }
     {
-        let i = slot.place();
-        self.keys[i].replace(record);
+        self.keys[slot.place()] = record;
     }
 }
