@@ -4,7 +4,7 @@ ghost use Rattle.memory.specs.Areas.{holds, size, erase_last, place_in, some_hol
 
 use fault::Fault;
 
-#[derive(Clone, Copy)]
+#[derive(Clone, Copy, PartialEq, Eq, Debug)]
 pub struct Area {
     pub first: u32,
     pub last: u32,
@@ -16,7 +16,7 @@ impl Area {
     pub fn holds(&self, address: u32) -> bool
         ensures { result ≡ holds self.now address }
     {
-        self.first <= address && address <= self.last
+        (self.first..=self.last).contains(&address)
     }
 
     pub fn size(&self) -> usize

@@ -1,7 +1,7 @@
 // Loops of storing steps over any memory: bytes stored upward, and the mass erase.
 ghost use Rattle.std.specs.Prelude.{◌≡◌, ◌+◌, ◌-◌, true, length};
 ghost use Rattle.std.specs.List.{flat_map};
-ghost use Rattle.memory.specs.Meaning.{all_in_map, answer_of, left_by, performed};
+ghost use Rattle.memory.specs.Meaning.{Performs, all_in_map};
 ghost use Rattle.memory.specs.Steps.{blanks, data_answer, data_left, erase_steps, round, store_up, EraseAsWritten};
 
 use crate::areas::{AREAS, Area, VECTOR_LOW, check_range};
@@ -11,8 +11,7 @@ use fault::Fault;
 // Stores the bytes upward from an address, all of them at addresses of the map.
 fn store_up<M: Memory>(memory: &mut M, address: u32, bytes: &[u8]) -> Result<(), Fault>
     requires { all_in_map (store_up address bytes.now) ≡ true }
-    ensures after { M.meaning memory.new ≡ left_by (performed (store_up address bytes.now) (M.meaning memory.old)) }
-    ensures value { result ≡ answer_of (performed (store_up address bytes.now) (M.meaning memory.old)) }
+    ensures { Performs (store_up address bytes.now) (M.meaning memory.old) (M.meaning memory.new) result }
 {
     let mut at = address;
     for b in bytes {
@@ -34,8 +33,7 @@ pub fn store_data<M: Memory>(memory: &mut M, address: u32, bytes: &[u8]) -> Resu
 // Blanks the addresses from `first` to `last`, all of them of the map.
 fn blank_up<M: Memory>(memory: &mut M, first: u32, last: u32) -> Result<(), Fault>
     requires { all_in_map (blanks first ((last + 1) - first)) ≡ true }
-    ensures after { M.meaning memory.new ≡ left_by (performed (blanks first ((last + 1) - first)) (M.meaning memory.old)) }
-    ensures value { result ≡ answer_of (performed (blanks first ((last + 1) - first)) (M.meaning memory.old)) }
+    ensures { Performs (blanks first ((last + 1) - first)) (M.meaning memory.old) (M.meaning memory.new) result }
 {
     for address in u64::from(first)..u64::from(last) + 1 {
         memory.store(address as u32, 0xFF)?;
@@ -46,8 +44,7 @@ fn blank_up<M: Memory>(memory: &mut M, first: u32, last: u32) -> Result<(), Faul
 // Blanks what is erased of an area, if it is of the round: of what holds the vector, or of the rest.
 fn erase_area<M: Memory>(memory: &mut M, area: &Area, vector: bool) -> Result<(), Fault>
     requires { all_in_map (round vector area.now) ≡ true }
-    ensures after { M.meaning memory.new ≡ left_by (performed (round vector area.now) (M.meaning memory.old)) }
-    ensures value { result ≡ answer_of (performed (round vector area.now) (M.meaning memory.old)) }
+    ensures { Performs (round vector area.now) (M.meaning memory.old) (M.meaning memory.new) result }
 {
     if area.holds(VECTOR_LOW) != vector {
         return Ok(());
@@ -61,8 +58,7 @@ fn erase_area<M: Memory>(memory: &mut M, area: &Area, vector: bool) -> Result<()
 // One round over the areas, in their order.
 fn erase_round<M: Memory>(memory: &mut M, areas: &[Area; 4], vector: bool) -> Result<(), Fault>
     requires { all_in_map (flat_map (round vector) areas.now) ≡ true }
-    ensures after { M.meaning memory.new ≡ left_by (performed (flat_map (round vector) areas.now) (M.meaning memory.old)) }
-    ensures value { result ≡ answer_of (performed (flat_map (round vector) areas.now) (M.meaning memory.old)) }
+    ensures { Performs (flat_map (round vector) areas.now) (M.meaning memory.old) (M.meaning memory.new) result }
 {
     for area in areas.iter() {
         erase_area(memory, area, vector)?;
@@ -72,8 +68,7 @@ fn erase_round<M: Memory>(memory: &mut M, areas: &[Area; 4], vector: bool) -> Re
 
 // Blanks the vector, then the rest of its area, then the other areas.
 pub fn mass_erase<M: Memory>(memory: &mut M) -> Result<(), Fault>
-    ensures after { M.meaning memory.new ≡ left_by (performed erase_steps (M.meaning memory.old)) }
-    ensures value { result ≡ answer_of (performed erase_steps (M.meaning memory.old)) }
+    ensures made { Performs erase_steps (M.meaning memory.old) (M.meaning memory.new) result }
     ensures written { EraseAsWritten }
     ensures count { length erase_steps ≡ 60479 }
 {

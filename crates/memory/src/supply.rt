@@ -6,7 +6,7 @@ ghost use Rattle.memory.specs.Supply.{lit, spent};
 
 use fault::Fault;
 
-#[derive(Clone, Copy)]
+#[derive(Clone, Copy, PartialEq, Eq, Debug)]
 pub enum Supply {
     NoEnd,
     Steps(u32),

@@ -20,7 +20,7 @@ unfolding erase_steps
 returns-in_err-set_vector g c =
     let m = g.M.Memory.meaning c.args.memory.now in
     let d = done_all _ _ m m _ _ _ refl (passed_on _ _ c.from_residual.ensures.1) (step_broke _ _ erase_steps m _ refl _ refl c.in_err-set_vector.ensures) in
-    record { after = d.after; value = d.value; written = as_written; count = erase_count }
+    record { made = d; written = as_written; count = erase_count }
 
 pub returns-in_err-erase_round : goal.returns-in_err-erase_round
 unfolding erase_steps all_areas
@@ -29,7 +29,7 @@ returns-in_err-erase_round g c =
     let e = step_went _ _ erase_steps m _ refl c.in_ok-set_vector.ensures in
     let s = steps_broke (flat_map (round true) all_areas) (flat_map (round false) all_areas) _ _ _ refl _ c.in_err-erase_round.ensures in
     let d = done_all _ _ _ m _ _ _ e (passed_on _ _ c.from_residual-in_err-erase_round.ensures.1) s in
-    record { after = d.after; value = d.value; written = as_written; count = erase_count }
+    record { made = d; written = as_written; count = erase_count }
 
 pub returns : goal.returns
 unfolding erase_steps all_areas
@@ -38,4 +38,4 @@ returns g c =
     let e = step_went _ _ erase_steps m _ refl c.in_ok-set_vector.ensures in
     let f = steps_went (flat_map (round true) all_areas) (flat_map (round false) all_areas) _ _ _ refl c.in_ok-erase_round.ensures in
     let d = done_all _ _ _ m _ _ _ (f ∙ e) refl c.erase_round-2.ensures in
-    record { after = d.after; value = d.value; written = as_written; count = erase_count }
+    record { made = d; written = as_written; count = erase_count }
