@@ -1,6 +1,6 @@
 // The map: a constant table of areas, walked to find the place of an address.
 ghost use Rattle.std.specs.Prelude.{◌≡◌, ◌^◌, ◌<◌, ◌≤◌, is_some, IfSome};
-ghost use Rattle.memory.specs.Areas.{holds, size, erase_last, place_in, some_holds, place, range_checked, map_size, Inverse, VectorPlace, RangeExamples};
+ghost use Rattle.memory.specs.Areas.{holds, size, erase_last, place_in, some_holds, place, first_outside, range_checked, map_size, Inverse, VectorPlace, RangeExamples};
 
 use fault::Fault;
 
@@ -94,17 +94,23 @@ pub fn place_of(address: u32) -> Option<usize>
     place_in(&AREAS, address)
 }
 
+// The first of `count` addresses upward that is outside the map.
+fn first_outside(address: u32, count: usize) -> Option<u32>
+    ensures { result ≡ first_outside address count }
+{
+    (address..=u32::MAX)
+        .take(count)
+        .find(|at| place_of(*at).is_none())
+}
+
 // Refuses `count` addresses upward at the first that is outside the map.
+#[tactic(auto, using(crate::proofs::Places::range_examples))]
 pub fn check_range(address: u32, count: usize) -> Result<(), Fault>
     ensures value { result ≡ range_checked address count }
     ensures examples { RangeExamples }
 {
-    let mut at = address;
-    for _ in 0..count {
-        if place_of(at).is_none() {
-            return Err(Fault::OutsideArea(at));
-        }
-        at += 1;
+    match first_outside(address, count) {
+        Some(at) => Err(Fault::OutsideArea(at)),
+        None => Ok(()),
     }
-    Ok(())
 }
