@@ -13,7 +13,7 @@ ghost use Rattle.rules.specs.Promises.{AnswersTellNothing, NoPacketIsTakenTwice,
 use memory::Supply;
 
 // What a boot question answers: an application to start, a blank reset vector, or an unfinished update.
-#[derive(Clone, Copy)]
+#[derive(Clone, Copy, PartialEq, Eq, Debug)]
 pub enum Boot {
     Application,
     Blank,
@@ -34,14 +34,14 @@ impl Boot {
 }
 
 // No update is under way, or one that expects a packet number, of so many packets.
-#[derive(Clone, Copy)]
+#[derive(Clone, Copy, PartialEq, Eq, Debug)]
 pub enum Session {
     Closed,
     Expects(u16, u16),
 }
 
 // What a call gives to the board.
-#[derive(Clone, Copy)]
+#[derive(Clone, Copy, PartialEq, Eq, Debug)]
 pub enum Event {
     // A byte, with the lengths of the reply and the work buffer.
     Byte(u8, usize, usize),
@@ -52,7 +52,7 @@ pub enum Event {
 }
 
 // What a core command asks for, by its first byte and its length.
-#[derive(Clone, Copy)]
+#[derive(Clone, Copy, PartialEq, Eq, Debug)]
 pub enum Command {
     MassErase,
     Version,
