@@ -1,9 +1,9 @@
 // The rules of the board as a state machine, the three promises on whole runs, and laws that show what the words of the rules say.
 #![tactic(auto)]
 
-ghost use Rattle.std.specs.Prelude.{◌≡◌};
+ghost use Rattle.std.specs.Prelude.{◌≡◌, Some};
 ghost use Rattle.rules.specs.Arrival.{FramesArrive};
-ghost use Rattle.rules.specs.Board.{boot_number};
+ghost use Rattle.rules.specs.Board.{boot_number, boot_text};
 ghost use Rattle.rules.specs.Examples.{SameVersion};
 ghost use Rattle.rules.specs.Instances.{RunsExist};
 ghost use Rattle.rules.specs.Laws.{DarkWhenSpent, EachCallHasItsRefusals, PacketsAreOneList, PassingShows, RefusalsChangeNothing, TurnedAwayUnchanged};
@@ -11,6 +11,7 @@ ghost use Rattle.rules.specs.Memory.{DataIsLaid};
 ghost use Rattle.rules.specs.Promises.{AnswersTellNothing, NoPacketIsTakenTwice, UpdatesAreWhole};
 
 use memory::Supply;
+use std::fmt;
 
 // What a boot question answers: an application to start, a blank reset vector, or an unfinished update.
 #[derive(Clone, Copy, PartialEq, Eq, Debug)]
@@ -30,6 +31,18 @@ impl Boot {
             Boot::Blank => 2,
             Boot::Unfinished => 3,
         }
+    }
+}
+
+impl fmt::Display for Boot {
+    ghost output = { λ boot. Some (boot_text boot) };
+
+    fn fmt<W: fmt::Write>(&self, f: &mut fmt::Formatter<W>) -> fmt::Result {
+        f.write_str(match self {
+            Boot::Application => "there is an application to start",
+            Boot::Blank => "there is no application",
+            Boot::Unfinished => "an update is unfinished",
+        })
     }
 }
 
