@@ -27,7 +27,8 @@ pub fn store_data<M: Memory>(memory: &mut M, address: u32, bytes: &[u8]) -> Resu
     store_up(memory, address, bytes)
 }
 
-// Blanks the addresses from `first` to `last`, all of them of the map.
+// Blanks the addresses from `first` to `last`, all of them of the map. A loop of its own: one over any iterator, for both, would need a
+// contract that says what the iterator gives.
 fn blank_up<M: Memory>(memory: &mut M, first: u32, last: u32) -> Result<(), Fault>
     requires { all_in_map (blanks first ((last + 1) - first)) ≡ true }
     ensures { Performs (blanks first ((last + 1) - first)) (M.meaning memory.old) (M.meaning memory.new) result }
