@@ -1,12 +1,13 @@
 -- A loop of steps, one turn on: what is left to do, on the memory as it is, gives what all steps give from the start.
 use Rattle.std.proofs.Common.{◌≡◌, ℕ, Bool, true, false, not, List, [], ◌∷◌, ◌++◌, Ok, Err, Result, sym, refl, ap, ◌∙◌, arith}
-use Rattle.std.proofs.lemmas.Bool.{cond-false, cond-true, false≢true, not-false, not-true}
+use Rattle.std.proofs.lemmas.Bool.{and_parts, cond-false, cond-true, false≢true, not-false, not-true}
 use Rattle.fault.specs.Checks.{check, then}
 use Rattle.fault.specs.declared.Fault.{Fault}
 use Rattle.fault.specs.declared.Fault.TheVariants.{Dark, OutsideMap}
-use Rattle.memory.specs.Meaning.{Makes, Meaning, Performs, Step, answer, answer_of, left_by, perform, performed, step_in_map}
+use Rattle.memory.specs.Meaning.{Makes, Meaning, Performs, Step, all_in_map, answer, answer_of, left_by, perform, performed, step_in_map}
 use Rattle.memory.specs.Supply.{lit}
 use Rattle.memory.proofs.Exits.{check_failed, check_passed}
+use Rattle.memory.proofs.InMap.{append_parts}
 use Rattle.memory.proofs.OneStep.{dark, made}
 use Rattle.memory.proofs.Performs.{go_on, perform_append, perform_first, perform_none}
 
@@ -61,3 +62,36 @@ done_all rest all k m n r s e h d = record { after = d.after ∙ ap left_by e; v
 -- nothing is left to do
 pub done_end : (rest all : List Step) (k m : Meaning) → rest ≡ [] → performed rest k ≡ performed all m → Performs all m k (Ok tt)
 done_end rest all k m o e = done_all [] all k m k (Ok tt) (Ok tt) (ap (λ xs. performed xs k) (sym o) ∙ e) refl (done_none k)
+
+-- in the midst of steps: what is left keeps to the map, and gives on the memory as it is what all of them give from the start
+abbrev pub ToDo : List Step → Meaning → List Step → Meaning → Type 0
+ToDo left now all start = record { in_map : all_in_map left ≡ true; same : performed left now ≡ performed all start }
+
+pub to_do_all : (all : List Step) (m : Meaning) → all_in_map all ≡ true → ToDo all m all m
+to_do_all all m h = record { in_map = h; same = refl }
+
+-- one of them, and the rest
+module _ (s : Step) (ss left all : List Step) (m n start : Meaning) (opened : left ≡ s ∷ ss) (d : ToDo left m all start) where
+  first_in : (step_in_map s ≡ true) × (all_in_map ss ≡ true)
+  first_in = and_parts (step_in_map s) _ (sym (ap all_in_map opened) ∙ d.in_map)
+
+  pub turn_went : Makes s m n (Ok tt) → ToDo ss n all start
+  turn_went k = record { in_map = first_in.1; same = step_went s ss left m n opened k ∙ d.same }
+
+  pub turn_broke : (f : Fault) (r : Result (Unit {0}) Fault) → r ≡ Err f → Makes s m n (Err f) → Performs all start n r
+  turn_broke f r h k = done_all left all m start n r (Err f) d.same h (step_broke s ss left m n opened f first_in.0 k)
+
+-- some of them, and the rest
+module _ (xs ss left all : List Step) (m n start : Meaning) (opened : left ≡ xs ++ ss) (d : ToDo left m all start) where
+  part_in : (all_in_map xs ≡ true) × (all_in_map ss ≡ true)
+  part_in = append_parts xs ss (sym (ap all_in_map opened) ∙ d.in_map)
+
+  pub part_went : Performs xs m n (Ok tt) → ToDo ss n all start
+  part_went k = record { in_map = part_in.1; same = steps_went xs ss left m n opened k ∙ d.same }
+
+  pub part_broke : (f : Fault) (r : Result (Unit {0}) Fault) → r ≡ Err f → Performs xs m n (Err f) → Performs all start n r
+  part_broke f r h k = done_all left all m start n r (Err f) d.same h (steps_broke xs ss left m n opened f k)
+
+-- none of them
+pub turns_done : (left all : List Step) (m start : Meaning) → left ≡ [] → ToDo left m all start → Performs all start m (Ok tt)
+turns_done left all m start o d = done_end left all m start o d.same

@@ -25,7 +25,7 @@ pub struct Held {
 }
 
 impl KeySlot {
-    // The slot's place in the key table.
+    // The slot's place in the key table; a name says what the number is, which a From would not.
     pub fn place(&self) -> usize
         ensures { result ≡ slot_place self.now }
     {
