@@ -1,6 +1,6 @@
 use Rattle.std.proofs.Common.{[], ◌∷◌, ◌++◌, get_or, take, ap, ◌∙◌, rules}
 use Rattle.cipher.proofs.Streams.{last_two}
-use Rattle.cipher.proofs.mode.counter_block.Goals as goal
+use Rattle.cipher.proofs.session.counter_block.Goals as goal
 
 pub returns : goal.returns
 returns c =
