@@ -1,6 +1,6 @@
 -- The bytes of hexadecimal text, two digits at a time.
-use Rattle.std.proofs.Common.{◌≡◌, ℕ, ◌+◌, ◌-◌, ◌*◌, ◌<◌, ◌≤◌, List, [], ◌∷◌, ◌++◌, length, get_or, take, drop, Some, None, Option, sym, refl, ap, ◌∙◌, ap₂, arith}
-use Rattle.std.proofs.lemmas.List.{append_assoc, append-nil, drop_all, drop-drop, get_or-drop, length-drop, take_rest}
+use Rattle.std.proofs.Common.{◌≡◌, ℕ, ◌+◌, ◌*◌, ◌%◌, ◌<◌, ◌≤◌, List, [], ◌∷◌, ◌++◌, length, get_or, drop, Some, None, Option, sym, refl, ap, ◌∙◌, arith}
+use Rattle.std.proofs.lemmas.List.{append_assoc, append-nil, drop_all, drop-drop, get_or-drop, length-drop}
 use Rattle.std.specs.Option.{option_map}
 use Rattle.text.specs.Numbers.{and_then}
 use Rattle.text.specs.Hex.{hex_pair, hex_read}
@@ -35,11 +35,6 @@ read_more : (acc xs : List ℕ) (b : ℕ) → 2 ≤ length xs → Some b ≡ hex
     → behind (acc ++ b ∷ []) (hex_read (drop 2 xs)) ≡ behind acc (hex_read xs)
 read_more acc xs b h e = sym (ap (behind acc) (read_two xs h (Some b) e) ∙ behind_one acc b (hex_read (drop 2 xs)))
 
--- a turn of a loop that goes on behind the two
-pub read_turn : (acc more xs : List ℕ) (b : ℕ) → 2 ≤ length xs → Some b ≡ hex_pair (get_or xs 0 0) (get_or xs 1 0) → more ≡ acc ++ b ∷ []
-    → behind more (hex_read (take (length xs - 2) (drop 2 xs))) ≡ behind acc (hex_read xs)
-read_turn acc more xs b h e p = ap₂ (λ ys zs. behind ys (hex_read zs)) p (take_rest xs 2) ∙ read_more acc xs b h e
-
 -- two digits more from place 2 * i on
 pub read_more_at : (acc xs : List ℕ) (i b : ℕ) → 2 * i + 1 < length xs → Some b ≡ hex_pair (get_or xs (2 * i) 0) (get_or xs (2 * i + 1) 0)
     → behind (acc ++ b ∷ []) (hex_read (drop (2 * (i + 1)) xs)) ≡ behind acc (hex_read (drop (2 * i) xs))
@@ -59,3 +54,13 @@ read_none_at acc xs i h e =
 -- no digit is left
 pub read_all : (acc xs : List ℕ) (i : ℕ) → length xs ≤ 2 * i → Some acc ≡ behind acc (hex_read (drop (2 * i) xs))
 read_all acc xs i h = sym (ap (λ ys. behind acc (hex_read ys)) (drop_all (2 * i) xs h) ∙ ap (λ bs. Some bs) (append-nil acc))
+
+none_then : (o : Option ℕ) (r : Option (List ℕ)) → r ≡ None → None ≡ and_then o (λ b. option_map (λ bs. b ∷ bs) r)
+none_then None r e = refl
+none_then (Some b) r e = ap (option_map (λ bs. b ∷ bs)) (sym e)
+
+-- a digit is missing
+pub read_odd : (xs : List ℕ) → length xs % 2 ≡ 1 → None ≡ hex_read xs
+read_odd [] h = absurd (omega arith)
+read_odd (x ∷ []) h = refl
+read_odd (x ∷ y ∷ xs) h = none_then (hex_pair x y) (hex_read xs) (sym (read_odd xs (omega arith)))
