@@ -22,21 +22,14 @@ fn hex_byte(high: u8, low: u8) -> Option<u8>
     Some(h * 16 + l)
 }
 
-// The byte with an index, where the text has its two digits.
-fn byte_at(text: &[u8], i: usize) -> Option<u8>
-    requires { 2 * i + 1 < length text.now }
-    ensures { result ≡ hex_pair (slice_index text.now (2 * i)) (slice_index text.now (2 * i + 1)) }
-{
-    hex_byte(text[2 * i], text[2 * i + 1])
-}
-
 // Reads two digits for each byte; none where one is no digit.
 fn read_bytes(text: &[u8], bytes: &mut [u8]) -> Option<()>
     requires { length text.now ≡ 2 * length bytes.old }
     ensures { option_map (λ _. bytes.new) result ≡ hex_read text.now }
 {
-    for i in 0..bytes.len() {
-        bytes[i] = byte_at(text, i)?;
+    let (pairs, _) = text.as_chunks::<2>();
+    for (i, [high, low]) in pairs.iter().enumerate() {
+        bytes[i] = hex_byte(*high, *low)?;
     }
     Some(())
 }
