@@ -1,7 +1,7 @@
 // Loops of storing steps over any memory: bytes stored upward, and the mass erase.
-ghost use Rattle.std.specs.Prelude.{◌≡◌, ◌+◌, ◌-◌, true, length};
+ghost use Rattle.std.specs.Prelude.{◌≡◌, true, length};
 ghost use Rattle.memory.specs.Meaning.{Performs, all_in_map};
-ghost use Rattle.memory.specs.Steps.{blanks, data_answer, data_left, erase_steps, erased, store_up, EraseAsWritten};
+ghost use Rattle.memory.specs.Steps.{data_answer, data_left, erase_steps, erased, store_up, EraseAsWritten};
 
 use crate::areas::{Area, INFO, LOWER, TABLE, UPPER, check_range};
 use crate::memory::Memory;
@@ -27,27 +27,18 @@ pub fn store_data<M: Memory>(memory: &mut M, address: u32, bytes: &[u8]) -> Resu
     store_up(memory, address, bytes)
 }
 
-// Blanks the addresses from `first` to `last`, all of them of the map. A loop of its own: one over any iterator, for both, would need a
-// contract that says what the iterator gives.
-fn blank_up<M: Memory>(memory: &mut M, first: u32, last: u32) -> Result<(), Fault>
-    requires { all_in_map (blanks first ((last + 1) - first)) ≡ true }
-    ensures { Performs (blanks first ((last + 1) - first)) (M.meaning memory.old) (M.meaning memory.new) result }
-{
-    for address in first..=last {
-        memory.store(address, 0xFF)?;
-    }
-    Ok(())
-}
-
-// Blanks what is erased of an area.
+// Blanks what is erased of an area. A loop of its own: one over any iterator, for stored bytes too, would need a contract that says what the
+// iterator gives.
 fn erase_area<M: Memory>(memory: &mut M, area: &Area) -> Result<(), Fault>
     requires { all_in_map (erased area.now) ≡ true }
     ensures { Performs (erased area.now) (M.meaning memory.old) (M.meaning memory.new) result }
 {
-    match area.erase {
-        None => Ok(()),
-        Some(first) => blank_up(memory, first, area.erase_last()),
+    if let Some(first) = area.erase {
+        for address in first..=area.erase_last() {
+            memory.store(address, 0xFF)?;
+        }
     }
+    Ok(())
 }
 
 // Blanks the vector, then the rest of its area, then the other areas.
