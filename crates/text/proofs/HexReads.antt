@@ -1,6 +1,6 @@
 -- The bytes of hexadecimal text, two digits at a time.
 use Rattle.std.proofs.Common.{◌≡◌, ℕ, zero, suc, ◌+◌, ◌*◌, ◌/◌, ◌%◌, ◌<◌, ◌≤◌, List, [], ◌∷◌, ◌++◌, length, get_or, take, drop, Some, None, Option, sym, refl, ap, ◌∙◌, arith}
-use Rattle.std.proofs.lemmas.List.{append_assoc, append-nil, drop_all, drop-drop, length-drop}
+use Rattle.std.proofs.lemmas.List.{append_assoc, drop-drop, length-drop}
 use Rattle.std.specs.Option.{option_map}
 use Rattle.std.specs.Simd.{first_chunks}
 use Rattle.text.specs.Numbers.{and_then}
@@ -9,10 +9,6 @@ use Rattle.text.specs.Hex.{hex_pair, hex_read}
 -- bytes that are read already, and what the rest of the digits says
 abbrev pub behind : List ℕ → Option (List ℕ) → Option (List ℕ)
 behind acc o = option_map (λ bs. acc ++ bs) o
-
-pub behind_none : (o : Option (List ℕ)) → behind [] o ≡ o
-behind_none None = refl
-behind_none (Some bs) = refl
 
 behind_one : (acc : List ℕ) (b : ℕ) (o : Option (List ℕ)) → behind acc (option_map (λ bs. b ∷ bs) o) ≡ behind (acc ++ b ∷ []) o
 behind_one acc b None = refl
@@ -57,10 +53,6 @@ module _ (xs : List ℕ) (ps : List (List ℕ)) (i : ℕ) (e : ps ≡ first_chun
   pub read_none : (acc : List ℕ) → None ≡ hex_pair (get_or (get_or ps i []) 0 0) (get_or (get_or ps i []) 1 0)
       → None ≡ behind acc (hex_read (drop (2 * i) xs))
   read_none acc r = sym (ap (behind acc) (two None r))
-
--- no digit is left
-pub read_all : (acc xs : List ℕ) (i : ℕ) → length xs ≤ 2 * i → Some acc ≡ behind acc (hex_read (drop (2 * i) xs))
-read_all acc xs i h = sym (ap (λ ys. behind acc (hex_read ys)) (drop_all (2 * i) xs h) ∙ ap (λ bs. Some bs) (append-nil acc))
 
 none_then : (o : Option ℕ) (r : Option (List ℕ)) → r ≡ None → None ≡ and_then o (λ b. option_map (λ bs. b ∷ bs) r)
 none_then None r e = refl

@@ -1,6 +1,6 @@
 -- Numbers of digits that grow past a limit.
-use Rattle.std.proofs.Common.{◌≡◌, ℕ, zero, suc, ◌+◌, ◌*◌, ◌<◌, ◌≤◌, ◌-◌, ◌^◌, min, true, nat_eq, nat_lt, List, [], ◌∷◌, length, get_or, take, drop, Some, None, Ok, Err, Option, Result, sym, refl, ap, ◌∙◌, arith}
-use Rattle.std.proofs.lemmas.List.{at_drop_all, at_drop_more}
+use Rattle.std.proofs.Common.{◌≡◌, ℕ, zero, suc, ◌+◌, ◌*◌, ◌<◌, ◌-◌, ◌^◌, min, true, nat_eq, nat_lt, List, [], ◌∷◌, length, get_or, take, drop, Some, None, Ok, Err, Option, Result, sym, refl, ap, ◌∙◌, arith}
+use Rattle.std.proofs.lemmas.List.{at_drop_more}
 use Rattle.std.proofs.lemmas.Bool.Decides.{Decides-eqb, nat_tests}
 use Rattle.std.proofs.lemmas.Slice.Eq.{slice_eq-Decides}
 use Rattle.std.specs.Option.{option_map}
@@ -34,20 +34,6 @@ digit_then digit base n bs o = and_then o (λ d. number_after digit base (n * ba
 pub after_more : (digit : ℕ → Option ℕ) (base n : ℕ) (bs : List ℕ) (i d : ℕ) → i < length bs → Some d ≡ digit (get_or bs i 0)
     → number_after digit base (n * base + d) (drop (i + 1) bs) ≡ number_after digit base n (drop i bs)
 after_more digit base n bs i d h e = ap (digit_then digit base n (drop (i + 1) bs)) e ∙ sym (at_drop_more (number_after digit base n) bs i 0 h)
-
--- no digit at place i
-pub after_none : (digit : ℕ → Option ℕ) (base n : ℕ) (bs : List ℕ) (i : ℕ) → i < length bs → None ≡ digit (get_or bs i 0)
-    → None ≡ number_after digit base n (drop i bs)
-after_none digit base n bs i h e = ap (digit_then digit base n (drop (i + 1) bs)) e ∙ sym (at_drop_more (number_after digit base n) bs i 0 h)
-
--- no digit is left
-pub after_all : (digit : ℕ → Option ℕ) (base n : ℕ) (bs : List ℕ) (i : ℕ) → length bs ≤ i → Some n ≡ number_after digit base n (drop i bs)
-after_all digit base n bs i h = sym (at_drop_all (number_after digit base n) bs i h)
-
--- there is a digit
-pub of_some : (digit : ℕ → Option ℕ) (base : ℕ) (bs : List ℕ) → 0 < length bs → number_after digit base 0 bs ≡ number_of digit base bs
-of_some digit base [] h = absurd (omega arith)
-of_some digit base (b ∷ bs) h = refl
 
 same_then : (o : Option ℕ) (f g : ℕ → Option ℕ) → ((d : ℕ) → f d ≡ g d) → and_then o f ≡ and_then o g
 same_then None f g h = refl

@@ -1,12 +1,9 @@
 -- Two digits are a byte more.
-use Rattle.std.proofs.Common.{◌≡◌, ◌+◌, ◌*◌, ◌<◌, length, take, drop, Some, sym, refl, ap, ◌∙◌, arith}
-use Rattle.std.proofs.lemmas.List.{length-set, take_all, take_more_set}
+use Rattle.std.proofs.Common.{◌+◌, ◌*◌, ◌<◌, length, take, drop, ap, ◌∙◌, arith}
+use Rattle.std.proofs.lemmas.List.{length-set, take_more_set}
 use Rattle.text.specs.Hex.{hex_read}
-use Rattle.text.proofs.HexReads.{behind, behind_none, read_all, read_more, read_none}
+use Rattle.text.proofs.HexReads.{behind, read_more, read_none}
 use Rattle.text.proofs.hex.read_bytes.Goals as goal
-
-pub loop-i-init : goal.loop-i-init
-loop-i-init c = (refl, behind_none _)
 
 pub returns-in_err-bytes : goal.returns-in_err-bytes
 returns-in_err-bytes c =
@@ -24,10 +21,3 @@ loop-i-preserved c =
       length-set c.loop-i.bytes i b ∙ c.loop-i.invariant.0,
       ap (λ acc. behind acc (hex_read (drop (2 * (i + 1)) xs))) (take_more_set c.loop-i.bytes i b h) ∙ more ∙ c.loop-i.invariant.1,
     )
-
-pub returns : goal.returns
-returns c =
-    let xs = c.args.text.now in
-    let i = c.loop-i.i in
-    let all : take i c.loop-i.bytes ≡ c.loop-i.bytes = take_all i c.loop-i.bytes (omega arith) in
-    ap (λ bs. Some bs) (sym all) ∙ read_all (take i c.loop-i.bytes) xs i (omega arith) ∙ c.loop-i.invariant.1
