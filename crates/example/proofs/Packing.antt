@@ -1,5 +1,5 @@
 -- A part of the example update is packed without fail.
-use Rattle.std.proofs.Common.{◌≡◌, ℕ, ◌+◌, ◌≤◌, leb, List, length, take, drop, Ok, Err, Result, Bor, sym, ap, ◌∙◌, arith, length-append}
+use Rattle.std.proofs.Common.{◌≡◌, ℕ, ◌+◌, ◌≤◌, leb, List, length, take, drop, Ok, Err, Result, Bor, sym, ap, ◌∙◌, arith}
 use Rattle.std.proofs.lemmas.Bool.{and_from, le-leb}
 use Rattle.std.proofs.lemmas.List.{take_at}
 use Rattle.fault.specs.Checks.{check, then}
@@ -32,15 +32,7 @@ packs key iv v n p i l h a =
 pub not_refused : {A : Type 0} (r : Result (List ℕ) Fault) (f : List ℕ) (d : Fault) → r ≡ Ok f → Err d ≡ frame_length r → A
 not_refused r f d h e = let k : Err d ≡ Ok (length f) = e ∙ ap frame_length h in let z : ◌≡◌ {A = ℕ} 0 1 = cc in absurd (omega arith)
 
--- its frame is no longer than the output,
-pub fits : (r : Result (List ℕ) Fault) (f out after : List ℕ) (n : ℕ) → r ≡ Ok f → Ok n ≡ frame_length r → after ≡ laid r out → n ≤ length after
-fits r f out after n h a e =
-    let l : Ok n ≡ Ok (length f) = a ∙ ap frame_length h in
-    let k : n ≡ length f = cc in
-    let m = ap length (e ∙ ap (λ x. laid x out) h) ∙ length-append f (drop (length f) out) in
-    omega (arith, k, m)
-
--- and stands at its front
+-- and its frame stands at the output's front
 pub front : (r : Result (List ℕ) Fault) (f out after : List ℕ) (n : ℕ) → r ≡ Ok f → Ok n ≡ frame_length r → after ≡ laid r out → take n after ≡ f
 front r f out after n h a e =
     let l : Ok n ≡ Ok (length f) = a ∙ ap frame_length h in

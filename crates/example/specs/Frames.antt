@@ -1,12 +1,7 @@
--- Frames as bytes, and as the calls that send them.
-use Rattle.std.specs.Prelude.{ℕ, List, map, take}
+-- Frames as the calls that send them.
+use Rattle.std.specs.Prelude.{ℕ, List, map}
 use Rattle.rules.specs.declared.Event.{Event}
 use Rattle.rules.specs.declared.Event.TheVariants.{Byte}
-use Rattle.example.specs.declared.frame.Frame.{Frame}
-
--- the bytes of a packed frame
-abbrev pub frame_bytes : Frame → List ℕ
-frame_bytes f = take f.length f.buffer
 
 -- a byte call with buffers of full size
 abbrev pub byte_call : ℕ → Event

@@ -1,10 +1,8 @@
 // An example update for demonstrations: three packets of firmware, packed with CCM, and the calls that send a frame.
 #![tactic(auto)]
 
-mod frame;
 mod sending;
 mod update;
 
-pub use frame::Frame;
 pub use sending::push_frame;
-pub use update::{COUNT, pack_part};
+pub use update::{COUNT, Frame, pack_part};

@@ -1,13 +1,15 @@
 // The parts of the example update. Each version has bytes of its own, so that a mixture of two can be seen.
 ghost use Rattle.std.specs.Prelude.{◌≡◌, ◌≤◌, true, length, is_ok, IfOk};
 ghost use Rattle.wire.specs.Frame.{frame};
-ghost use Rattle.example.specs.Frames.{frame_bytes};
 ghost use Rattle.example.specs.Parts.{part_address, part_bytes, part_iv, part_packet};
 
-use crate::frame::Frame;
+use buffer::Buffer;
 use cipher::{Aes128, Ccm};
 use fault::Fault;
 use packer::{DataPacket, pack_data};
+
+// A packed frame; its contracts see its bytes.
+pub type Frame = Buffer<304>;
 
 // How many packets the update has.
 pub const COUNT: u8 = 3;
@@ -36,7 +38,7 @@ fn pack_bytes(key: &[u8; 16], version: u8, number: u8, bytes: &[u8]) -> Result<F
     requires some { 1 ≤ length bytes.now }
     requires most { length bytes.now ≤ 256 }
     ensures packed { is_ok result ≡ true }
-    ensures made { IfOk result (λ f. frame_bytes f ≡ frame (part_packet key.now version number bytes.now)) }
+    ensures made { IfOk result (λ f. f ≡ frame (part_packet key.now version number bytes.now)) }
 {
     let packet = DataPacket {
         version,
@@ -48,16 +50,13 @@ fn pack_bytes(key: &[u8; 16], version: u8, number: u8, bytes: &[u8]) -> Result<F
     let mut buffer = [0; 304];
     let iv = iv_of(version, number);
     let length = pack_data::<Ccm<Aes128>>(key, &iv, &packet, &mut buffer)?;
-    if length > 304 {
-        return Err(Fault::OutputShort);
-    }
-    Ok(Frame { buffer, length })
+    Ok(Frame::front(&buffer, length))
 }
 
 // Packs part `number` of a version of the update, under a data key: 256 bytes of the version's number twice, then the reset vector.
 pub fn pack_part(key: &[u8; 16], version: u8, number: u8) -> Result<Frame, Fault>
     ensures packed { is_ok result ≡ true }
-    ensures made { IfOk result (λ f. frame_bytes f ≡ frame (part_packet key.now version number (part_bytes version number))) }
+    ensures made { IfOk result (λ f. f ≡ frame (part_packet key.now version number (part_bytes version number))) }
 {
     if number < COUNT {
         pack_bytes(key, version, number, &[version; 256])
