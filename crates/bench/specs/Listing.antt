@@ -1,12 +1,10 @@
 -- A listing, line by line, on a board.
 use Rattle.std.specs.Prelude.{ℕ, List, [], ◌++◌, Ok, Err, Result}
 use Rattle.fault.specs.declared.Fault.{Fault}
-use Rattle.memory.specs.Meaning.{Meaning}
 use Rattle.cipher.specs.Cipher.{Cipher}
 use Rattle.rules.specs.declared.Event.{Event}
 use Rattle.rules.specs.Board.{Outcome, State, history, refuses, run, step}
 use Rattle.board.specs.Running.{answers}
-use Rattle.board.specs.State.{state_of}
 use Rattle.listing.specs.Lines.{line_event}
 use Rattle.listing.specs.Rows.{row}
 use Rattle.bench.specs.Replaying.{next_number, number_behind, rows_from}
@@ -38,5 +36,5 @@ with_calls C es r =
 
 -- how far a bench has come, the calls that wait counted in
 module _ {M C : Type 0} where
-  abbrev pub reached_by : (M → Meaning) → Cipher → Bench M C → Reached
-  reached_by means K b = with_calls K b.events.items (record { state = state_of means b.board; number = b.number; rows = b.rows.items })
+  abbrev pub reached_by : Cipher → Bench M C → Reached
+  reached_by K b = with_calls K b.events.items (record { state = b.board; number = b.number; rows = b.rows.items })

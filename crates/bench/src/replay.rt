@@ -1,7 +1,5 @@
 // Calls made on a board in one run, and the rows that they print.
-ghost use Rattle.std.specs.Prelude.{◌≡◌, map, IfOk};
-ghost use Rattle.board.specs.Answers.{answer_of};
-ghost use Rattle.board.specs.State.{state_of};
+ghost use Rattle.std.specs.Prelude.{◌≡◌, IfOk};
 ghost use Rattle.bench.specs.Replaying.{Printed, Replayed, next_number};
 
 use board::{Answer, Board};
@@ -20,7 +18,7 @@ pub fn number_after(number: u64) -> u64
 
 // Appends a row for each answer, numbered from `number` on, and says the number behind the last.
 fn write_rows(rows: &mut Vec<u8>, number: u64, answers: &[Answer]) -> Result<u64, AllocError>
-    ensures { IfOk result (Printed number (map answer_of answers.now) rows.old.items rows.new.items) }
+    ensures { IfOk result (Printed number answers.now rows.old.items rows.new.items) }
 {
     let mut next = number;
     for answer in answers {
@@ -38,7 +36,7 @@ pub fn replay<M: Memory, C: PacketCipher>(
     number: u64,
     rows: &mut Vec<u8>,
 ) -> Result<u64, AllocError>
-    ensures { IfOk result (Replayed C.cipher (state_of M.meaning board.old) events.now number rows.old.items (state_of M.meaning board.new) rows.new.items) }
+    ensures { IfOk result (Replayed C.cipher board.old events.now number rows.old.items board.new rows.new.items) }
 {
     let answers = board.run(heap, events)?;
     write_rows(rows, number, &answers)

@@ -1,7 +1,6 @@
 // A board whose calls are made in pieces: calls wait and are made together, and their rows wait to be printed, so that neither a long
 // listing nor its rows have to stand in memory.
 ghost use Rattle.std.specs.Prelude.{◌≡◌, ◌||◌, [], length, nat_le, IfOk};
-ghost use Rattle.board.specs.State.{state_of};
 ghost use Rattle.bench.specs.Listing.{Reached, reached_by, with_line};
 
 use crate::replay::{number_after, replay};
@@ -24,7 +23,7 @@ pub(crate) struct Bench<M: Memory, C: PacketCipher> {
 impl<M: Memory, C: PacketCipher> Bench<M, C> {
     // A listing that has not begun; its events are numbered from 1.
     pub(crate) fn new(heap: Global, board: Board<M, C>) -> Bench<M, C>
-        ensures { reached_by M.meaning C.cipher result ≡ record { state = state_of M.meaning board; number = 1; rows = [] } }
+        ensures { reached_by C.cipher result ≡ record { state = board; number = 1; rows = [] } }
     {
         Bench {
             board,
@@ -36,7 +35,7 @@ impl<M: Memory, C: PacketCipher> Bench<M, C> {
 
     // Takes one line: a call waits, a malformed line gets its row at once, behind those of the calls before it.
     pub(crate) fn line(&mut self, heap: Global, line: &[u8]) -> Result<(), AllocError>
-        ensures { IfOk result (λ u. reached_by M.meaning C.cipher self.new ≡ with_line C.cipher line.now (reached_by M.meaning C.cipher self.old)) }
+        ensures { IfOk result (λ u. reached_by C.cipher self.new ≡ with_line C.cipher line.now (reached_by C.cipher self.old)) }
     {
         match read_line(line) {
             Ok(event) => self.events.push(event)?,
@@ -51,7 +50,7 @@ impl<M: Memory, C: PacketCipher> Bench<M, C> {
 
     // Makes the calls that wait, and writes their rows.
     pub(crate) fn make_calls(&mut self, heap: Global) -> Result<(), AllocError>
-        ensures reached { IfOk result (λ u. reached_by M.meaning C.cipher self.new ≡ reached_by M.meaning C.cipher self.old) }
+        ensures reached { IfOk result (λ u. reached_by C.cipher self.new ≡ reached_by C.cipher self.old) }
         ensures none { IfOk result (λ u. self.new.events.items ≡ []) }
     {
         self.number = replay(
@@ -82,7 +81,7 @@ impl<M: Memory, C: PacketCipher> Bench<M, C> {
     // Forgets the rows, which are printed.
     pub(crate) fn clear_rows(&mut self)
         ensures rows { self.new.rows.items ≡ [] }
-        ensures board { state_of M.meaning self.new.board ≡ state_of M.meaning self.old.board }
+        ensures board { self.new.board ≡ self.old.board }
         ensures waiting { self.new.events.items ≡ self.old.events.items }
         ensures number { self.new.number ≡ self.old.number }
     {

@@ -1,5 +1,4 @@
 use Rattle.std.proofs.Common.{◌≡◌, Err, sym, ap, ap₂, ◌∙◌}
-use Rattle.board.specs.State.{state_of}
 use Rattle.bench.specs.Listing.{Reached, line_outcome, reached_by, with_calls, with_outcome}
 use Rattle.bench.proofs.Reaching.{call_more, calls_none}
 use Rattle.bench.proofs.waiting.Bench.line.Goals as goal
@@ -8,8 +7,8 @@ pub returns-in_ok-push-in-Ok : goal.returns-in_ok-push-in-Ok
 returns-in_ok-push-in-Ok g c =
     let C = g.C.PacketCipher.cipher in
     let b = c.args.self.now in
-    let r : Reached = record { state = state_of g.M.Memory.meaning b.board; number = b.number; rows = b.rows.items } in
-    let w = reached_by g.M.Memory.meaning C b in
+    let r : Reached = record { state = b.board; number = b.number; rows = b.rows.items } in
+    let w = reached_by C b in
     ap (λ es. with_calls C es r) c.in_ok-push-in-Ok.ensures.items
     ∙ call_more C b.events.items c.in-Ok.event r
     ∙ ap (λ v. with_outcome (line_outcome C w.state v) w) c.in-Ok.ensures
@@ -18,11 +17,10 @@ returns-in_ok-push-in-Ok g c =
 pub returns-in_ok-write_row-in-Err : goal.returns-in_ok-write_row-in-Err
 returns-in_ok-write_row-in-Err g c =
     let C = g.C.PacketCipher.cipher in
-    let means = g.M.Memory.meaning in
     let b = c.make_calls.new.self in
     let f = c.in-Err.fault in
-    let t : Reached = record { state = state_of means b.board; number = b.number; rows = b.rows.items } in
-    let w = reached_by means C c.args.self.now in
+    let t : Reached = record { state = b.board; number = b.number; rows = b.rows.items } in
+    let w = reached_by C c.args.self.now in
     let made = c.in_ok-make_calls-in-Err.ensures in
     let all : t ≡ w = sym (ap (λ es. with_calls C es t) made.none ∙ calls_none C t) ∙ made.reached in
     let refused : Reached = with_outcome (line_outcome C t.state (Err f)) t in

@@ -1,5 +1,4 @@
 use Rattle.std.proofs.Common.{ap, ◌∙◌}
-use Rattle.board.specs.State.{state_of}
 use Rattle.bench.specs.Listing.{Reached, with_calls}
 use Rattle.bench.proofs.Reaching.{calls_made, calls_none}
 use Rattle.bench.proofs.waiting.Bench.make_calls.Goals as goal
@@ -8,8 +7,8 @@ pub returns-clause-reached : goal.returns-clause-reached
 returns-clause-reached g c =
     let C = g.C.PacketCipher.cipher in
     let b = c.args.self.now in
-    let before : Reached = record { state = state_of g.M.Memory.meaning b.board; number = b.number; rows = b.rows.items } in
-    let behind : Reached = record { state = state_of g.M.Memory.meaning c.replay.new.board; number = c.in_ok-self.field-0; rows = c.replay.new.rows.items } in
+    let before : Reached = record { state = b.board; number = b.number; rows = b.rows.items } in
+    let behind : Reached = record { state = c.replay.new.board; number = c.in_ok-self.field-0; rows = c.replay.new.rows.items } in
     ap (λ es. with_calls C es behind) c.clear.ensures.items
     ∙ calls_none C behind
     ∙ calls_made C before.state behind.state _ b.number behind.number b.rows.items behind.rows c.in_ok-self.ensures

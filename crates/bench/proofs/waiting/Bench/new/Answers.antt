@@ -1,5 +1,4 @@
 use Rattle.std.proofs.Common.{[], ap₂, ◌∙◌}
-use Rattle.board.specs.State.{state_of}
 use Rattle.bench.specs.Listing.{with_calls}
 use Rattle.bench.proofs.Reaching.{calls_none}
 use Rattle.bench.proofs.waiting.Bench.new.Goals as goal
@@ -7,6 +6,6 @@ use Rattle.bench.proofs.waiting.Bench.new.Goals as goal
 pub returns : goal.returns
 returns g c =
     let C = g.C.PacketCipher.cipher in
-    let s = state_of g.M.Memory.meaning c.args.board in
+    let s = c.args.board in
     ap₂ (λ es qs. with_calls C es (record { state = s; number = 1; rows = qs })) c.new.ensures.items c.new-2.ensures.items
     ∙ calls_none C (record { state = s; number = 1; rows = [] })
