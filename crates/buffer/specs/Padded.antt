@@ -1,5 +1,9 @@
 -- Bytes in use at the front of an array, with zeros behind them.
-use Rattle.std.specs.Prelude.{◌≡◌, ℕ, ◌-◌, ◌≤◌, List, ◌++◌, length, take, replicate}
+use Rattle.std.specs.Prelude.{◌≡◌, ℕ, ◌-◌, ◌≤◌, List, ◌++◌, length, take, replicate, min}
+
+-- how many bytes there is room for in n
+abbrev pub room : ℕ → ℕ
+room n = min n 0xFFFF
 
 -- the bytes, with zeros behind them up to n
 abbrev pub padding : ℕ → List ℕ → List ℕ

@@ -1,14 +1,16 @@
-// A buffer of N bytes in one array, of which the first are in use. Contracts see the bytes in use.
+// A buffer of N bytes in one array, of which the first are in use, up to 65,535 of them: their count takes two bytes, as a board is
+// small. Contracts see the bytes in use.
 #![tactic(auto)]
 
 ghost use Rattle.std.specs.Prelude.{◌≡◌, [], ◌∷◌, ◌++◌, take};
+ghost use Rattle.buffer.specs.Padded.{room};
 
 use std::marker::Model;
 
 #[derive(Clone, Copy)]
 pub struct Buffer<const N: usize> {
     bytes: [u8; N],
-    count: usize,
+    count: u16,
 }
 
 impl<const N: usize> Model for Buffer<N> {
@@ -35,9 +37,9 @@ impl<const N: usize> Buffer<N> {
         }
     }
 
-    // The first `count` bytes of an array; all of them where it has no more.
+    // The first `count` bytes of an array, as far as there is room; all of them where it has no more.
     pub fn front(array: &[u8; N], count: usize) -> Self
-        ensures { result ≡ take count array.now }
+        ensures { result ≡ take (room N) (take count array.now) }
     {
         let bytes: &[u8] = array;
         Buffer::from_slice(&bytes[..count.min(N)])
@@ -45,29 +47,30 @@ impl<const N: usize> Buffer<N> {
 
     // The bytes of a slice, and no more than the first N of them.
     pub fn from_slice(bytes: &[u8]) -> Self
-        ensures { result ≡ take N bytes.now }
+        ensures { result ≡ take (room N) bytes.now }
     {
-        let count = bytes.len().min(N);
+        let count = bytes.len().min(N).min(0xFFFF);
         let mut buffer = [0; N];
         buffer[..count].copy_from_slice(&bytes[..count]);
         Buffer {
             bytes: buffer,
-            count,
+            count: count as u16,
         }
     }
 
     pub fn as_slice(&self) -> &[u8]
         ensures { result.now ≡ self.now }
     {
-        &self.bytes[..self.count]
+        &self.bytes[..self.count as usize]
     }
 
     // Puts a byte behind the others; nothing changes where the buffer is full.
     pub fn push(&mut self, byte: u8)
-        ensures { self.new ≡ take N (self.old ++ byte ∷ []) }
+        ensures { self.new ≡ take (room N) (self.old ++ byte ∷ []) }
     {
-        if self.count < N {
-            self.bytes[self.count] = byte;
+        let count = self.count as usize;
+        if count < N && count < 0xFFFF {
+            self.bytes[count] = byte;
             self.count += 1;
         }
     }
