@@ -64,15 +64,8 @@ module _ (C : Cipher) (s : State) (b : ℕ) where
 
 -- the work buffer
 module _ (reply : ℕ) (w : List ℕ) where
-  pub work_reply : reply < 11 → w ≡ work_after reply w
-  work_reply h = sym (cond-true _ _ _ (lt-ltb _ _ h))
-
-  module _ (r : 11 ≤ reply) where
-    pub work_work : length w < 266 → w ≡ work_after reply w
-    work_work h = sym (cond-false _ _ _ (le-ltb _ _ r) ∙ cond-true _ _ _ (lt-ltb _ _ h))
-
-    pub work_wiped : 266 ≤ length w → (x : List ℕ) → x ≡ zeros → x ++ drop 266 w ≡ work_after reply w
-    work_wiped l x e = ap (λ y. y ++ drop 266 w) e ∙ sym (cond-false _ _ _ (le-ltb _ _ r) ∙ cond-false _ _ _ (le-ltb _ _ l))
+  pub work_wiped : 11 ≤ reply → 266 ≤ length w → (x : List ℕ) → x ≡ zeros → x ++ drop 266 w ≡ work_after reply w
+  work_wiped r l x e = ap (λ y. y ++ drop 266 w) e ∙ sym (cond-false _ _ _ (le-ltb _ _ r) ∙ cond-false _ _ _ (le-ltb _ _ l))
 
 -- what the power check tells
 dark_from : (d : Bool) (f : Fault) → Err f ≡ power_checked d → d ≡ true

@@ -1,16 +1,11 @@
 -- Which command a core command is, by its length and its first byte.
-use Rattle.std.proofs.Common.{◌≡◌, ℕ, ◌≤◌, List, [], ◌∷◌, length, get_or, sym, refl, ap, ◌∙◌, arith}
+use Rattle.std.proofs.Common.{◌≡◌, ℕ, ◌≤◌, List, [], ◌∷◌, length, get_or, sym, ap, ◌∙◌, arith}
 use Rattle.std.proofs.lemmas.Bool.{cond-false, cond-true, eq-eqb, ne_eqb}
 use Rattle.rules.specs.Commands.{alone, command}
 use Rattle.cipher.specs.Cipher.{Cipher}
 use Rattle.rules.specs.Board.{Outcome, State, enact, obey}
 use Rattle.rules.specs.declared.Command.{Command}
 use Rattle.rules.specs.declared.Command.TheVariants.{Data, Key, Unknown}
-
-pub command_none : (xs : List ℕ) → length xs ≡ 0 → Unknown 0 ≡ command xs
-unfolding command
-command_none [] h = refl
-command_none (x ∷ xs) h = absurd (omega arith)
 
 pub command_data : (xs : List ℕ) → 1 ≤ length xs → get_or xs 0 0 ≡ 0x30 → Data ≡ command xs
 unfolding command

@@ -49,6 +49,7 @@ pub record Working : Type 0 where
   pub memory : Meaning
   pub session : Session
 
+-- a memory and a session
 abbrev pub works : Meaning → Session → Working
 works m n = record { memory = m; session = n }
 

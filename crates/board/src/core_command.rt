@@ -5,6 +5,7 @@ ghost use Rattle.rules.specs.Commands.{alone, command};
 use buffer::Buffer;
 use rules::Command;
 
+// No model: with one, the receiver's lending of it gets no proof.
 #[derive(Clone, Copy)]
 pub struct CoreCommand<'a> {
     pub(crate) buffer: &'a Buffer<299>,

@@ -1,4 +1,5 @@
-// The states of a key packet, moved from one to the next and never copied, as those of a data packet.
+// The states of a key packet, moved from one to the next and never copied. They differ from those of a data packet in their fields,
+// checks and steps; what is alike is in `Sealed`.
 ghost use Rattle.std.specs.Prelude.{◌≡◌};
 ghost use Rattle.rules.specs.Board.{key_fields};
 ghost use Rattle.board.specs.Opening.{opened_by};
@@ -79,8 +80,6 @@ impl<'w> OpenedKey<'w> {
     fn key(&self) -> [u8; 16]
         ensures { result ≡ self.now.key }
     {
-        let mut key = [0; 16];
-        key.copy_from_slice(&self.bytes[2..]);
-        key
+        *self.bytes[2..].first_chunk().unwrap()
     }
 }

@@ -21,6 +21,7 @@ pub enum Progress {
     CheckHigh(u8),
 }
 
+// No model: with one, what `byte` lends gets no proof.
 #[derive(Drop)]
 pub struct Receiver {
     progress: Progress,

@@ -1,7 +1,7 @@
 // A sealed packet of either kind, which opening uses up.
 ghost use Rattle.std.specs.Prelude.{◌≡◌, ◌+◌, ◌≤◌, length, IfOk, Ok};
 ghost use Rattle.fault.specs.Checks.{then};
-ghost use Rattle.rules.specs.Packets.{iv_of};
+ghost use Rattle.rules.specs.Packets.{body_of, iv_of};
 ghost use Rattle.board.specs.Judging.{sized};
 ghost use Rattle.board.specs.Opening.{behind, opened_by};
 
@@ -43,14 +43,14 @@ impl<'a, const LEAST: usize, const MOST: usize> Sealed<'a, LEAST, MOST> {
         Ok(Sealed { core })
     }
 
-    // The IV of the packet.
-    fn iv(&self) -> [u8; 16]
+    // The IV of the packet, and its body.
+    fn parts(&self) -> (&'a [u8; 16], &'a [u8])
         requires { 17 ≤ LEAST }
-        ensures { result ≡ iv_of self.now }
+        ensures iv { result.0.now ≡ iv_of self.now }
+        ensures body { result.1.now ≡ body_of self.now }
+        ensures sized { (LEAST ≤ length self.now) × (length self.now ≤ MOST) }
     {
-        let mut iv = [0; 16];
-        iv.copy_from_slice(&self.core.bytes()[1..17]);
-        iv
+        self.core.bytes()[1..].split_first_chunk().unwrap()
     }
 
     // Opens the packet into the work buffer; its contents lie there.
@@ -63,9 +63,9 @@ impl<'a, const LEAST: usize, const MOST: usize> Sealed<'a, LEAST, MOST> {
         ensures value { behind result ≡ opened_by C.cipher (λ c. c) key.now self.entry }
         ensures long { IfOk result (λ c. (LEAST ≤ length c.now + 33) × (length c.now + 33 ≤ MOST)) }
     {
-        let iv = self.iv();
-        C::check_iv(&iv)?;
-        let n = C::open(key, &iv, &self.core.bytes()[17..], work)?;
+        let (iv, body) = self.parts();
+        C::check_iv(iv)?;
+        let n = C::open(key, iv, body, work)?;
         Ok(&work[..n])
     }
 }

@@ -47,10 +47,8 @@ impl<'w> Opened<'w> {
             if !self.may_open(held) {
                 return Err(Fault::MayNotOpen(self.pn()));
             }
-        } else {
-            if !self.may_follow(session, held) {
-                return Err(Fault::OutOfTurn(self.pn()));
-            }
+        } else if !self.may_follow(session, held) {
+            return Err(Fault::OutOfTurn(self.pn()));
         }
         Ok(())
     }
