@@ -57,6 +57,7 @@ fn small_product(t: u8, y: u128) -> u128
     ensures { result ≡ horner t y 4 }
 {
     let mut w = 0;
+    // `i` is the place of a bit, and no index: there is nothing to iterate over.
     for i in 0..4u32 {
         w = added_if((t >> i) % 2, shifted(w), y);
     }
@@ -75,6 +76,7 @@ impl Factor {
         ensures { result ≡ spec.times x self.now.value }
     {
         let mut w = 0;
+        // `i` is the place of four bits, and no index: there is nothing to iterate over.
         for i in 0..32u32 {
             w = shifted4(w) ^ self.products[((x >> (4 * i)) % 16) as usize];
         }

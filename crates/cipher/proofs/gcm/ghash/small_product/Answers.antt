@@ -1,6 +1,6 @@
-use Rattle.std.proofs.Common.{◌≡◌, ◌/◌, ◌%◌, ◌^◌, eqb, sym, ap, ◌∙◌, arith}
+use Rattle.std.proofs.Common.{◌/◌, ◌%◌, ◌^◌, eqb, sym, ap, ◌∙◌}
 use Rattle.cipher.specs.Ghash.{halved}
-use Rattle.cipher.specs.Horner.{added, horner}
+use Rattle.cipher.specs.Horner.{added}
 use Rattle.cipher.proofs.Horners.{horner_none, horner_next}
 use Rattle.cipher.proofs.gcm.ghash.small_product.Goals as goal
 
@@ -13,6 +13,3 @@ loop-i-preserved c =
     let y = c.args.y in
     let i = c.loop-i.i in
     c.added_if-w.ensures ∙ ap (λ w. added (eqb (t / 2 ^ i % 2) 1) w y) (c.shifted.ensures ∙ ap halved c.loop-i.invariant) ∙ sym (horner_next t y i)
-
-pub returns : goal.returns
-returns c = let e : c.loop-i.i ≡ 4 = omega arith in c.loop-i.invariant ∙ ap (horner c.args.t c.args.y) e

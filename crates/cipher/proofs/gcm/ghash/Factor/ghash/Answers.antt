@@ -2,7 +2,7 @@ use Rattle.std.proofs.Common.{◌≡◌, ◌+◌, ◌*◌, [], ◌∷◌, ◌++�
 use lib.Bits.{bit_xor}
 use Rattle.cipher.specs.Blocks.{chain}
 use Rattle.cipher.specs.Ghash.{hash_step, number, times}
-use Rattle.cipher.proofs.Streams.{chain_more, part_block, part_left, part_within, all_parts}
+use Rattle.cipher.proofs.Streams.{chain_more, part_block, part_left, part_within}
 use Rattle.cipher.proofs.gcm.ghash.Factor.ghash.Goals as goal
 
 pub loop-part-preserved : goal.loop-part-preserved
@@ -20,11 +20,3 @@ loop-part-preserved c =
       part_left d _ _ _ k _ i.1 i.2 s.1 ∙ ap (λ n. drop (16 * n) d) (sym more),
       omega (arith, more, part_within d _ _ _ k _ i.1 i.2 s.1),
     )
-
-pub returns : goal.returns
-returns c =
-    let h = c.args.self.now.value in
-    let xs = c.args.data.now in
-    let i = c.loop-part.invariant in
-    let n = all_parts xs _ (length c.loop-part.yielded) i.2 c.in-None.ensures.steps.1.0 i.3 in
-    c.times.ensures ∙ ap (λ y. times (bit_xor y (length xs * 8)) h) (i.0 ∙ ap (chain (hash_step h) 0 xs) n)
