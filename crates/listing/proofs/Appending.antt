@@ -20,7 +20,3 @@ appended_byte i l c = record { items = i; len = l; capacity = c }
 -- a vector by another name
 pub appended_at : {Z : Type 0} {u v w : Vec ℕ Z} {n : ℕ} {xs : List ℕ} → Appended u v n xs → w ≡ v → Appended u w n xs
 appended_at p e = rw e p
-
--- bytes by another name
-pub appended_as : {Z : Type 0} {u v : Vec ℕ Z} {m n : ℕ} {xs ys : List ℕ} → Appended u v m xs → m ≡ n → xs ≡ ys → Appended u v n ys
-appended_as {u = u} p e f = record { items = p.items ∙ ap (λ l. vec_items u ++ l) f; len = omega arith; capacity = p.capacity }

@@ -11,7 +11,7 @@ use Rattle.wire.specs.Checksum.{crc}
 use Rattle.wire.specs.Frame.{frame, framed, over, room}
 use Rattle.wire.proofs.Frames.{length_frame}
 use Rattle.packer.specs.Packets.{data_contents, key_contents}
-use Rattle.packer.specs.Packing.{packet, packed_data, packed_key, OpensTo}
+use Rattle.packer.specs.Packing.{frame_length, laid, packet, packed_data, packed_key, OpensTo}
 use Rattle.packer.specs.declared.packet.DataPacket.{DataPacket}
 use Rattle.packer.specs.declared.packet.KeyPacket.{KeyPacket}
 use Rattle.packer.proofs.Places.{put, put_one, put_next, put_at, over_put, length_put}
@@ -58,20 +58,20 @@ module _ (out iv : List ℕ) (command n : ℕ) (li : length iv ≡ 16) (high : n
 -- contents that were laid at place 20, of a lawful cipher
 module _ (C : Cipher) (L : Lawful C) (command m : ℕ) (key iv contents xs ys : List ℕ) (u : Usable C key iv)
     (lc : length contents ≡ m) (high : m ≤ 266) (fits : 38 + m ≤ length xs) (ey : ys ≡ put 20 xs contents) where
-  pub length_packed : length (frame (packet C command key iv contents)) ≡ 38 + m
+  length_packed : length (frame (packet C command key iv contents)) ≡ 38 + m
   length_packed =
       let s : length (C.seal key iv contents) ≡ 16 + m = L.longer key iv contents u (omega arith) ∙ omega arith in
       let i : length (iv ++ C.seal key iv contents) ≡ 32 + m = length-append iv (C.seal key iv contents) ∙ omega (arith, u.1) in
       length_frame (packet C command key iv contents) ∙ omega arith
 
-  pub over_packed : over (frame (packet C command key iv (take m (drop 20 ys)))) ys ≡ over (frame (packet C command key iv contents)) xs
+  over_packed : over (frame (packet C command key iv (take m (drop 20 ys)))) ys ≡ over (frame (packet C command key iv contents)) xs
   over_packed =
       let f = length_packed in
       let c : take m (drop 20 ys) ≡ contents = ap (λ x. take m (drop 20 x)) ey ∙ put_at 20 m xs contents (sym lc) (omega arith) in
       ap₂ (λ x y. over (frame (packet C command key iv x)) y) c ey ∙ over_put (frame (packet C command key iv contents)) xs contents 20 (omega arith) (omega arith)
 
   -- what was packed opens again
-  pub opens_back : (out : List ℕ) (r : Result ℕ Fault) → out ≡ over (frame (packet C command key iv contents)) xs → r ≡ Ok (38 + m)
+  opens_back : (out : List ℕ) (r : Result ℕ Fault) → out ≡ over (frame (packet C command key iv contents)) xs → r ≡ Ok (38 + m)
       → IfOk r (OpensTo C key iv contents out)
   unfolding frame
   opens_back out r eo er =
@@ -85,6 +85,17 @@ module _ (C : Cipher) (L : Lawful C) (command m : ℕ) (key iv contents xs ys : 
       let d : drop 20 out ≡ body ++ (sums ++ rest) = ap (drop 20) eo ∙ a ∙ append_assoc body sums rest in
       let b : take (38 + m - 22) (drop 20 out) ≡ body = ap (take (38 + m - 22)) d ∙ take_at body (sums ++ rest) (38 + m - 22) lb in
       subst (λ (x : Result ℕ Fault). IfOk x (OpensTo C key iv contents out)) (sym er) (ap (C.opened key iv) b ∙ L.complete key iv contents u (omega arith))
+
+  -- what packing promises, where every check passes
+  pub all_packed : (packed : Result (List ℕ) Fault) (out : List ℕ) (r : Result ℕ Fault) → packed ≡ Ok (frame (packet C command key iv contents))
+      → out ≡ over (frame (packet C command key iv (take m (drop 20 ys)))) ys → r ≡ Ok (38 + m)
+      → (r ≡ frame_length packed) × (out ≡ laid packed xs) × IfOk r (OpensTo C key iv contents out)
+  all_packed packed out r passes eo er =
+      let over_xs = eo ∙ over_packed in (
+        er ∙ ap Ok (sym length_packed) ∙ sym (ap frame_length passes),
+        over_xs ∙ sym (ap (λ p. laid p xs) passes),
+        opens_back out r over_xs er,
+      )
 
 -- an IV that the check let pass
 formed_by : (t : Bool) (f : Fault) → ◌≡◌ {A = Result (Unit {0}) Fault} (Ok tt) (cond t (Ok tt) (Err f)) → t ≡ true

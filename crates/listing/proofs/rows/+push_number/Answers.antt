@@ -1,14 +1,9 @@
 -- Spaces or the digits before the last, and then the last digit.
-use Rattle.std.proofs.Common.{◌≡◌, ◌+◌, ◌-◌, arith, rules}
+use Rattle.std.proofs.Common.{◌≡◌, ◌+◌, ◌-◌, arith}
 use Rattle.listing.proofs.Appending.{appended_at, appended_byte, appended_more}
-use Rattle.listing.proofs.Columns.{justified_digit, justified_step, tenth_fits}
+use Rattle.listing.proofs.Columns.{justified_digit, justified_step}
 use Rattle.listing.proofs.rows.+push_number.Goals as goal
 use Rattle.listing.proofs.rows.+push_number.Goals.{then-number-lt10, else-number-lt10}
-
-pub push_number-requires : goal.push_number-requires
-push_number-requires t c =
-    let fits = tenth_fits c.args.width c.args.number (omega arith) c.requires.fits in
-    (search rules, (omega arith, (fits.1, omega arith)))
 
 pub returns : goal.returns
 returns t c =

@@ -1,35 +1,26 @@
 -- The room is there before the first byte is written.
-use Rattle.std.proofs.Common.{vec_items, refl, arith}
-use Rattle.std.proofs.lemmas.Result.{err_from_is_err_and}
+use Rattle.std.proofs.Common.{vec_items, arith}
 use Rattle.listing.specs.Rows.{answer_of}
 use Rattle.listing.proofs.Printed.{row_long, row_printed}
 use Rattle.listing.proofs.rows.write_row.Goals as goal
 
-pub returns-in_err-reserve : goal.returns-in_err-reserve
-returns-in_err-reserve c =
-    let a = answer_of c.args.refusal c.args.boot c.args.sent.now in
-    let p = err_from_is_err_and c.from_residual.result c.from_residual.ensures.1 in
-    rw p.1 (record {
-      items = c.in_err-reserve.ensures.items;
-      succeeds = λ h. absurd (omega (arith, c.in_err-reserve.ensures.full, row_long c.args.number a));
-    })
+pub returns-in_err-reserve-clause-succeeds : goal.returns-in_err-reserve-clause-succeeds
+returns-in_err-reserve-clause-succeeds c =
+    λ h. absurd (omega (arith, c.in_err-reserve.ensures.full, row_long c.args.number (answer_of c.args.refusal c.args.boot c.args.sent.now)))
 
-pub returns : goal.returns
-returns c =
+pub returns-clause-items : goal.returns-clause-items
+returns-clause-items c =
     let a = answer_of c.args.refusal c.args.boot c.args.sent.now in
-    record {
-      items = row_printed c.args.number c.refusal_number.result a (vec_items c.args.out.now) (vec_items c.reserve.new.self)
-          (vec_items c.push_event.new.out)
-          (vec_items c.push_byte.new.out)
-          (vec_items c.push_said.new.out)
-          (vec_items c.push_bytes.new.out)
-          (vec_items c.push_reserved.new.self)
-          c.in_ok-reserve.ensures.items
-          c.push_event.ensures.items
-          c.refusal_number.ensures
-          c.push_byte.ensures.items
-          c.push_said.ensures.items
-          c.push_bytes.ensures.items
-          c.push_reserved.ensures.items;
-      succeeds = λ _. refl;
-    }
+    row_printed c.args.number c.refusal_number.result a (vec_items c.args.out.now) (vec_items c.reserve.new.self)
+    (vec_items c.push_event.new.out)
+    (vec_items c.push_byte.new.out)
+    (vec_items c.push_said.new.out)
+    (vec_items c.push_bytes.new.out)
+    (vec_items c.push_reserved.new.self)
+    c.in_ok-reserve.ensures.items
+    c.push_event.ensures.items
+    c.refusal_number.ensures
+    c.push_byte.ensures.items
+    c.push_said.ensures.items
+    c.push_bytes.ensures.items
+    c.push_reserved.ensures.items

@@ -1,10 +1,9 @@
-use Rattle.std.proofs.Common.{◌≡◌, ℕ, ◌+◌, ◌-◌, true, ◌&&◌, leb, List, length, Ok, sym, refl, ap, ◌∙◌, ap₂, arith}
+use Rattle.std.proofs.Common.{◌≡◌, ℕ, ◌+◌, ◌-◌, true, ◌&&◌, leb, List, length, refl, ◌∙◌, ap₂, arith}
 use borrow.Rule.Slice.PartMut.{put_mid}
 use Rattle.std.proofs.lemmas.Bool.{and_from, le-leb}
 use Rattle.cipher.specs.Cipher.{Usable}
 use Rattle.packer.specs.Packets.{data_header, data_contents}
-use Rattle.packer.specs.Packing.{frame_length, laid}
-use Rattle.packer.proofs.Packs.{formed, data_passes, length_packed, over_packed, opens_back}
+use Rattle.packer.proofs.Packs.{formed, data_passes, all_packed}
 use Rattle.packer.proofs.Places.{put_next}
 use Rattle.packer.proofs.pack.pack_data.Goals as goal
 
@@ -27,10 +26,5 @@ returns g c =
     let ey =
     ap₂ (λ (x : List ℕ) (y : List ℕ). put_mid 30 (30 + n - 30) (put_mid 20 10 out x) y) (c.copy_from_slice.ensures.after ∙ c.header.ensures) c.copy_from_slice-2.ensures.after
     ∙ put_next 20 30 (30 + n - 30) out (data_header p) p.bytes.now refl k (omega arith) in
-    let eo = c.sealed_frame.ensures.out ∙ over_packed C L 0x30 (10 + n) key iv (data_contents p) out _ u (omega arith) (omega arith) (omega arith) ey in
-    let er = c.sealed_frame.ensures.answer in
-    record {
-      answer = er ∙ ap Ok (sym (length_packed C L 0x30 (10 + n) key iv (data_contents p) out _ u (omega arith) (omega arith) (omega arith) ey)) ∙ sym (ap frame_length passes);
-      out = eo ∙ sym (ap (λ r. laid r out) passes);
-      back = opens_back C L 0x30 (10 + n) key iv (data_contents p) out _ u (omega arith) (omega arith) (omega arith) ey c.sealed_frame.new.out c.sealed_frame.result eo er;
-    }
+    let packed = all_packed C L 0x30 (10 + n) key iv (data_contents p) out _ u (omega arith) (omega arith) (omega arith) ey _ c.sealed_frame.new.out c.sealed_frame.result passes c.sealed_frame.ensures.out c.sealed_frame.ensures.answer in
+    record { answer = packed.0; out = packed.1; back = packed.2 }

@@ -1,10 +1,9 @@
-use Rattle.std.proofs.Common.{◌≡◌, ℕ, true, leb, List, length, Ok, sym, ap, ◌∙◌, arith, rules}
+use Rattle.std.proofs.Common.{◌≡◌, ℕ, true, leb, List, length, ap, ◌∙◌, arith, rules}
 use borrow.Rule.Slice.PartMut.{put_mid}
 use Rattle.std.proofs.lemmas.Bool.{le-leb}
 use Rattle.cipher.specs.Cipher.{Usable}
 use Rattle.packer.specs.Packets.{key_contents}
-use Rattle.packer.specs.Packing.{frame_length, laid}
-use Rattle.packer.proofs.Packs.{formed, key_passes, length_packed, over_packed, opens_back}
+use Rattle.packer.proofs.Packs.{formed, key_passes, all_packed}
 use Rattle.packer.proofs.pack.pack_key.Goals as goal
 
 pub returns : goal.returns
@@ -23,10 +22,5 @@ returns g c =
     let lc : 18 ≡ length (key_contents p) = omega arith in
     let ey =
     ap (λ (x : List ℕ). put_mid 20 18 out x) (c.copy_from_slice.ensures.after ∙ c.contents.ensures) ∙ ap (λ k. put_mid 20 k out (key_contents p)) lc in
-    let eo = c.sealed_frame.ensures.out ∙ over_packed C L 0x31 18 kek iv (key_contents p) out _ u (omega arith) (omega arith) (omega arith) ey in
-    let er = c.sealed_frame.ensures.answer in
-    record {
-      answer = er ∙ ap Ok (sym (length_packed C L 0x31 18 kek iv (key_contents p) out _ u (omega arith) (omega arith) (omega arith) ey)) ∙ sym (ap frame_length passes);
-      out = eo ∙ sym (ap (λ r. laid r out) passes);
-      back = opens_back C L 0x31 18 kek iv (key_contents p) out _ u (omega arith) (omega arith) (omega arith) ey c.sealed_frame.new.out c.sealed_frame.result eo er;
-    }
+    let packed = all_packed C L 0x31 18 kek iv (key_contents p) out _ u (omega arith) (omega arith) (omega arith) ey _ c.sealed_frame.new.out c.sealed_frame.result passes c.sealed_frame.ensures.out c.sealed_frame.ensures.answer in
+    record { answer = packed.0; out = packed.1; back = packed.2 }

@@ -1,14 +1,11 @@
-use Rattle.std.proofs.Common.{◌≡◌, ◌+◌, ◌-◌, ◌∷◌, ◌++◌, length, take, drop, set, Ok, ap, ◌∙◌, arith, length-drop, length-take}
+use Rattle.std.proofs.Common.{◌≡◌, ◌+◌, ◌-◌, ◌∷◌, ◌++◌, length, take, drop, set, ap, ◌∙◌, arith, length-drop, length-take}
 use borrow.Rule.Slice.PartMut.{put_mid}
-use Rattle.std.specs.Option.{ok_or}
-use Rattle.std.proofs.lemmas.Bool.{cond-true}
-use Rattle.fault.specs.declared.Fault.TheVariants.{OutputShort}
 use Rattle.wire.specs.Frame.{frame, over}
-use Rattle.packer.proofs.Packs.{inside, roomy, enclosed}
+use Rattle.packer.proofs.Packs.{inside, enclosed}
 use Rattle.packer.proofs.pack.sealed_frame.Goals as goal
 
-pub returns : goal.returns
-returns g c =
+pub returns-clause-out : goal.returns-clause-out
+returns-clause-out g c =
     let out = c.args.out.now in
     let iv = c.args.iv.now in
     let n = c.args.n in
@@ -27,8 +24,4 @@ returns g c =
     ∙ inside out iv command n li c.requires.short c.requires.room k ek) in
     let lb : length body ≡ 16 + n =
     ap length es ∙ g.met.C.PacketCipher.lawful.longer c.args.key.now iv (take n (drop 20 out)) (c.told-key, li, c.requires.formed) (omega (arith, ln)) ∙ omega (arith, ln) in
-    record {
-      answer = c.ok_or.ensures.value ∙ ap (λ o. ok_or o OutputShort) (c.enclose.ensures.count ∙ cond-true _ _ _ (roomy out iv command n li c.requires.short c.requires.room body after k ek lb ea))
-          ∙ ap Ok (omega arith);
-      out = c.enclose.ensures.out ∙ enclosed out iv command n li c.requires.short c.requires.room body after k ek lb ea ∙ ap (λ b. over (frame (command ∷ (iv ++ b))) out) es;
-    }
+    c.enclose.ensures.out ∙ enclosed out iv command n li c.requires.short c.requires.room body after k ek lb ea ∙ ap (λ b. over (frame (command ∷ (iv ++ b))) out) es
