@@ -1,5 +1,5 @@
 -- Laws that tie the words of the promises to what a call is given and answers.
-use Rattle.std.specs.Prelude.{◌≡◌, ℕ, ◌<◌, ◌≤◌, Bool, true, false, cond, ◌⊎◌, List, [], ◌∷◌, ◌++◌, length, Some, None, Option, ◌≢◌, nat_lt}
+use Rattle.std.specs.Prelude.{◌≡◌, ℕ, ◌<◌, ◌≤◌, Bool, true, false, cond, ◌⊎◌, List, [], ◌∷◌, ◌++◌, Some, None, Option, ◌≢◌, nat_lt}
 use Rattle.fault.specs.declared.Fault.{Fault}
 use Rattle.fault.specs.declared.Fault.TheVariants.{ReplyShort, WorkShort, Dark, ImageSize, DataCount, OutputShort, OutsideMap, BadLine}
 use Rattle.fault.specs.declared.Fault.TheVariants.{UnknownCommand, PacketLength, BadIv, NotOpened}
@@ -11,21 +11,10 @@ use Rattle.rules.specs.declared.Event.{Event}
 use Rattle.rules.specs.declared.Event.TheVariants.{Byte, Silence, Question, PowerUp}
 use Rattle.rules.specs.Memory.{data_key, kek}
 use Rattle.rules.specs.Packets.{iv_of, body_of}
-use Rattle.rules.specs.Board.{State, Call, Packet, fields, refuses, step, history}
-use Rattle.rules.specs.Words.{Each, Arrives, Passes, Delivery, Packets}
+use Rattle.rules.specs.Board.{State, Call, Packet, refuses, step, history}
+use Rattle.rules.specs.Words.{Each, Arrives, Passes, Delivery, Packets, SealedAs}
 use Rattle.rules.specs.Promises.{Given, start}
 use Rattle.rules.specs.Arrival.{InByte, GivesByte}
-
--- A core command is the data packet that a key, an IV and contents give, and the contents have the fields p.
-pub record SealedAs (C : Cipher) (key core : List ℕ) (p : Packet) : Type 0 where
-  pub iv : List ℕ
-  pub contents : List ℕ
-  pub iv_bytes : length iv ≡ 16
-  pub well_formed : C.well_formed iv ≡ true
-  pub at_least : 11 ≤ length contents
-  pub at_most : length contents ≤ 266
-  pub core_is : core ≡ 0x30 ∷ (iv ++ C.seal key iv contents)
-  pub holds : fields contents ≡ p
 
 -- a call that refuses nothing, or goes dark
 abbrev pub Unrefused : Call → Type 0
