@@ -1,4 +1,4 @@
--- The rules at examples: the version that may open, a listing, and for each promise a run that it speaks of.
+-- The rules at examples: a listing, and for each promise a run that it speaks of.
 use Rattle.std.proofs.Common.{◌≡◌, ℕ, suc, ◌/◌, ◌%◌, ◌<◌, ◌≤◌, Bool, true, false, cond, eqb, leb, List, [], ◌∷◌, ◌++◌, map, length, get_or, set, replicate, Some, None, Ok, Option, sym, refl, ap, ◌∙◌, subst, inl, inr, true≢false, arith, lit<, length-set}
 use lib.ListN.{length-replicate, get_or-replicate}
 use Rattle.std.proofs.lemmas.List.{get_or-set_same, get_or-set_other, append_cancel_left, length-append}
@@ -19,7 +19,6 @@ use Rattle.rules.specs.Board
 use Rattle.rules.specs.Board.{run, State, Call, Packet, call, history, step, fresh, may_open, judge_fields}
 use Rattle.rules.specs.Words.{Each, version, Boots, Arrives, Opens, here}
 use Rattle.rules.specs.Promises.{Given, start, Endlessly}
-use Rattle.rules.specs.Examples.{SameVersion}
 use Rattle.rules.specs.Instances.{ResumedUpdate, Replay, Parting, RunsExist}
 use Rattle.rules.proofs.Runs.{run_append, history_append}
 use Rattle.rules.proofs.OneList.{packets_exist}
@@ -124,10 +123,6 @@ storing = tt
 every_rule : Unit {0}
 unfolding receiving judging storing run fresh step Board.decide Board.respond Board.obey Board.on_data Board.enact
 every_rule = tt
-
-pub same_version : SameVersion
-unfolding judging storing Board.on_data Board.enact
-same_version = (refl, refl)
 
 -- the packet arrives at a board that has read all but its last byte
 abbrev arrival : State → Call

@@ -15,3 +15,4 @@ pub mod Laws
 pub mod Refusing
 pub mod Promised
 pub mod Examples
+pub mod SameVersion
