@@ -13,6 +13,7 @@ use Rattle.wire.specs.Frame.{frame}
 use Rattle.cipher.specs.Cipher.{Cipher, Lawful}
 use Rattle.rules.specs.declared.Event.{Event}
 use Rattle.rules.specs.declared.Event.TheVariants.{Byte, Question, PowerUp}
+use Rattle.rules.specs.declared.Boot.TheVariants.{Application}
 use Rattle.rules.specs.Memory.{data_key, kek}
 use Rattle.rules.specs.Commands.{command}
 use Rattle.rules.specs.Board
@@ -134,7 +135,7 @@ application : (s : State) (a : ℕ) → s.dark ≡ false → s.contents.held.unf
 unfolding step Board.decide Board.heard Board.respond Board.enact Board.boot place all_areas
 application s a d m v n =
     let no_blank : eqb (get_or s.contents.image 44670 0) 255 ≡ false = ne_eqb _ _ (λ e. n (sym v ∙ e)) in
-    record { asks = refl; answers = cc }
+    record { asks = refl; said = Application; answers = cc; application = refl }
 
 first_boots : Boots (call open_cipher (start (board 0)) Question)
 unfolding fresh

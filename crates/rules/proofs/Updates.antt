@@ -4,13 +4,14 @@ use mathlib.Core.Path.{transport}
 use Rattle.std.proofs.lemmas.Bool.{cases_eq, eq-eqb, ne_eqb, cond-true, cond-false}
 use Rattle.fault.specs.declared.Fault.TheVariants.{Dark}
 use Rattle.rules.specs.declared.Event.{Event}
+use Rattle.rules.specs.declared.Boot.{Boot}
 use Rattle.rules.specs.declared.Boot.TheVariants.{Application, Blank, Unfinished}
 use Rattle.memory.specs.declared.held.Held.{Held}
 use Rattle.memory.specs.Meaning.{Contents}
 use Rattle.rules.specs.Memory.{blank, lay, data_key}
 use Rattle.cipher.specs.Cipher.{Cipher, Lawful}
 use Rattle.rules.specs.Board.{run, State, Call, Outcome, Packet, turned_away, question, call, step, decide, respond, heard, enact}
-use Rattle.rules.specs.Board.{boot, session_after, history}
+use Rattle.rules.specs.Board.{boot, boot_number, session_after, history}
 use Rattle.rules.specs.declared.Session.{Session}
 use Rattle.rules.specs.declared.Session.TheVariants.{Closed as closed, Expects as expects}
 use Rattle.rules.specs.Words.{here, later, Each, version, memory, Boots, Taken, Opens, Opened, Latest, Delivery, Packets, end}
@@ -42,11 +43,17 @@ question_ready C s false e =
     let r = boot_ready (mark s) (blank s.contents) is in
     (record { unmarked = r.0; vector = r.1 }, refl)
 
+-- of the answers only 'application' has the number 1
+one_boots : (b : Boot) → boot_number b ≡ 1 → b ≡ Application
+one_boots Application e = refl
+one_boots Blank e = absurd (omega arith)
+one_boots Unfinished e = absurd (omega arith)
+
 boots_ready : (C : Cipher) (s : State) (e : Event) → Boots (call C s e) → Ready s × ((step C s e).state ≡ s)
 unfolding step decide heard
 boots_ready C s e b =
     subst (λ (x : Event). Ready s × ((step C s x).state ≡ s)) (sym b.asks)
-    (question_ready C s s.dark (subst (λ (x : Event). (step C s x).answer.said ≡ Some Application) b.asks b.answers))
+    (question_ready C s s.dark (subst (λ (x : Event). (step C s x).answer.said ≡ Some Application) b.asks (b.answers ∙ ap Some (one_boots b.said b.application))))
 
 data_key_bytes : (s : State) → Sound s → length (data_key s.contents.held) ≡ 16
 data_key_bytes s g = each_at s.contents.held.keys 0 g.sixteen (omega (arith, g.two))

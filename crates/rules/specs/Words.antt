@@ -4,10 +4,10 @@ use Rattle.fault.specs.declared.Fault.{Fault}
 use Rattle.memory.specs.declared.supply.Supply.{Supply}
 use Rattle.memory.specs.declared.supply.Supply.TheVariants.{Steps}
 use Rattle.rules.specs.declared.Event.TheVariants.{Question, PowerUp}
-use Rattle.rules.specs.declared.Boot.TheVariants.{Application}
+use Rattle.rules.specs.declared.Boot.{Boot}
 use Rattle.rules.specs.Memory.{data_key, lay}
 use Rattle.cipher.specs.Cipher.{Cipher}
-use Rattle.rules.specs.Board.{State, Call, Packet, judge_data, heard, framed, fields}
+use Rattle.rules.specs.Board.{State, Call, Packet, boot_number, judge_data, heard, framed, fields}
 
 -- one of the elements has a property
 pub data Any {A : Type 0} (P : A → Type 0) : List A → Type 0 where
@@ -27,10 +27,12 @@ version s = s.contents.held.version
 abbrev pub memory : State → List ℕ
 memory s = s.contents.image
 
--- a boot question, answered 'application'
+-- a boot question, answered 1: 'application'
 pub record Boots (q : Call) : Type 0 where
   pub asks : q.event ≡ Question
-  pub answers : q.answer.said ≡ Some Application
+  pub said : Boot
+  pub answers : q.answer.said ≡ Some said
+  pub application : boot_number said ≡ 1
 
 -- a good frame's core command arrives at the call that reads the frame's last byte
 abbrev pub Arrives : Call → List ℕ → Type 0
