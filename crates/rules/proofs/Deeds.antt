@@ -109,6 +109,7 @@ pub record OpenedKey (C : Cipher) (s : State) (core : List ℕ) (p : KeyPacket) 
   pub contents : List ℕ
   pub opens : C.opened (kek s.contents.held) (iv_of core) (body_of core) ≡ Some contents
   pub holds : key_fields contents ≡ p
+  pub typed : (p.kt ≡ 0) ⊎ (p.kt ≡ 2)
   pub above : (key_record s.contents.held (slot_place (slot p.kt))).version < p.kv
 
 ok_same : (p q : KeyPacket) → ◌≡◌ {A = Result KeyPacket Fault} (Ok p) (Ok q) → p ≡ q
@@ -120,6 +121,14 @@ key_fields_passed s p q e =
     let a = check_passed _ _ _ q e in
     let b = check_passed (ltb (key_record s.contents.held (slot_place (slot p.kt))).version p.kv) _ (Ok p) q a.1 in
     (ok_same p q b.1, ltb-true _ _ b.0)
+
+key_type_passed : (s : State) (p q : KeyPacket) → judge_key_fields s p ≡ Ok q → (p.kt ≡ 0) ⊎ (p.kt ≡ 2)
+unfolding judge_key_fields
+key_type_passed s p q e =
+    elim (or_cases (eqb p.kt 0) (eqb p.kt 2) (check_passed _ _ _ q e).0) [
+      | inl h ↦ inl (eqb-true _ _ h)
+      | inr h ↦ inr (eqb-true _ _ h)
+    ]
 
 pub key_passed : (C : Cipher) (s : State) (core : List ℕ) (p : KeyPacket) → judge_key C s core ≡ Ok p → OpenedKey C s core p
 unfolding judge_key
@@ -134,6 +143,7 @@ key_passed C s core p e =
       contents = c.0;
       opens = c.1;
       holds = f.0;
+      typed = subst (λ (q : KeyPacket). (q.kt ≡ 0) ⊎ (q.kt ≡ 2)) f.0 (key_type_passed s (key_fields c.0) p c.2);
       above = subst (λ (q : KeyPacket). (key_record s.contents.held (slot_place (slot q.kt))).version < q.kv) f.0 f.1;
     }
 

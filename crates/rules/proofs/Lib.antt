@@ -11,6 +11,7 @@ pub mod Once
 pub mod Moves
 pub mod Updates
 pub mod OneList
+pub mod KeyTypes
 pub mod Laws
 pub mod Refusing
 pub mod Promised

@@ -5,14 +5,15 @@ use Rattle.fault.specs.declared.Fault.TheVariants.{ReplyShort, WorkShort, Dark, 
 use Rattle.fault.specs.declared.Fault.TheVariants.{UnknownCommand, PacketLength, BadIv, NotOpened}
 use Rattle.fault.specs.declared.Fault.TheVariants.{BadNumber, MayNotOpen, OutOfTurn, OutsideArea, BadKeyType, OldKey, NoHeader, BadChecksum, NoLength, TooLong}
 use Rattle.memory.specs.declared.supply.Supply.TheVariants.{Steps}
+use Rattle.memory.specs.declared.held.Held.{Held}
 use Rattle.memory.specs.Areas.{place}
 use Rattle.cipher.specs.Cipher.{Cipher, Lawful}
 use Rattle.rules.specs.declared.Event.{Event}
 use Rattle.rules.specs.declared.Event.TheVariants.{Byte, Silence, Question, PowerUp}
-use Rattle.rules.specs.Memory.{data_key, kek}
+use Rattle.rules.specs.Memory.{key_record, data_key, kek}
 use Rattle.rules.specs.Packets.{iv_of, body_of}
-use Rattle.rules.specs.Board.{State, Call, Packet, refuses, step, history}
-use Rattle.rules.specs.Words.{Each, Arrives, Passes, Delivery, Packets, SealedAs}
+use Rattle.rules.specs.Board.{State, Call, Packet, KeyPacket, key_fields, refuses, step, history}
+use Rattle.rules.specs.Words.{Each, Arrives, Begins, Taken, Passes, Delivery, Packets, SealedAs}
 use Rattle.rules.specs.Promises.{Given, start}
 use Rattle.rules.specs.Arrival.{InByte, GivesByte}
 
@@ -65,6 +66,31 @@ DarkWhenSpent =
     → (step C s e).answer.refusal ≡ Some Dark
     → s.dark ≡ false
     → ((step C s e).state.supply ≡ Steps 0) × ((step C s e).state.dark ≡ true)
+
+-- the key record at a place is the one that a key packet brings, and every other stands as it did
+pub record Replaced (i : ℕ) (p : KeyPacket) (h k : Held) : Type 0 where
+  pub there : key_record k i ≡ record { key = p.key; version = p.kv }
+  pub elsewhere : (j : ℕ) → (j ≢ i) → key_record k j ≡ key_record h j
+
+-- type 0 replaces the data key, type 2 the key-encryption key
+abbrev pub ReplacedByType : KeyPacket → Held → Held → Type 0
+ReplacedByType p h k = ((p.kt ≡ 0) × Replaced 0 p h k) ⊎ ((p.kt ≡ 2) × Replaced 1 p h k)
+
+-- a key packet's contents under the held key-encryption key, and the key that they replace
+pub record KeyTaken (C : Cipher) (c : Call) (core : List ℕ) : Type 0 where
+  pub contents : List ℕ
+  pub opens : C.opened (kek c.before.contents.held) (iv_of core) (body_of core) ≡ Some contents
+  pub replaced : ReplacedByType (key_fields contents) c.before.contents.held c.after.contents.held
+
+-- A key packet that is taken is of type 0 and replaces the data key, or of type 2 and replaces the key-encryption key; the other key stays.
+abbrev pub KeyTypesNameKeys : Type 0
+KeyTypesNameKeys =
+    (C : Cipher) → Lawful C → (g : Given) (events : List Event) (x z : List Call) (c : Call) (core : List ℕ)
+    → history C (start g) events ≡ x ++ c ∷ z
+    → Arrives c core
+    → Begins 0x31 core
+    → Taken c
+    → KeyTaken C c core
 
 -- a packet that arrives opens to bytes, where it opens under a held key
 abbrev pub OpensToBytes : Cipher → Call → Type 0
