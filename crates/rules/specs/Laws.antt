@@ -12,7 +12,7 @@ use Rattle.rules.specs.declared.Event.{Event}
 use Rattle.rules.specs.declared.Event.TheVariants.{Byte, Silence, Question, PowerUp}
 use Rattle.rules.specs.Memory.{key_record, data_key, kek}
 use Rattle.rules.specs.Packets.{iv_of, body_of}
-use Rattle.rules.specs.Board.{State, Call, Packet, KeyPacket, key_fields, refuses, step, history}
+use Rattle.rules.specs.Board.{State, Call, Packet, KeyPacket, key_fields, refuses, step, history, run}
 use Rattle.rules.specs.Words.{Each, Arrives, Begins, Taken, Passes, Delivery, Packets, SealedAs}
 use Rattle.rules.specs.Promises.{Given, start}
 use Rattle.rules.specs.Arrival.{InByte, GivesByte}
@@ -141,6 +141,24 @@ EachCallHasItsRefusals =
     → history C (start g) events ≡ x ++ c ∷ z
     → c.answer.refusal ≡ Some f
     → RefusalOf (OpensToBytes C c) c.event f
+
+-- the board behind calls that began with a board
+abbrev pub board_behind : State → List Call → State
+board_behind s [] = s
+board_behind s (c ∷ cs) = board_behind c.after cs
+
+-- a list of events, and another behind it
+pub record Joined (C : Cipher) (s : State) (first second : List Event) : Type 0 where
+  -- the history is that of the first, and then that of the second from the board that the first left
+  pub histories : history C s (first ++ second) ≡ history C s first ++ history C (run C s first) second
+  -- that board is the one behind the last call of the first
+  pub left : run C s first ≡ board_behind s (history C s first)
+  -- the board behind both is the one that the second left
+  pub boards : run C s (first ++ second) ≡ run C (run C s first) second
+
+-- A long run may be made in pieces.
+abbrev pub HistoriesJoin : Type 0
+HistoriesJoin = (C : Cipher) (s : State) (first second : List Event) → Joined C s first second
 
 -- The packets of an update are one list, behind whichever call of a history it opened at.
 abbrev pub PacketsAreOneList : Type 0
