@@ -1,5 +1,5 @@
 -- What a call decides, against what arrives at it; and what a packet that no check refuses satisfies.
-use Rattle.std.proofs.Common.{◌≡◌, ℕ, ◌+◌, ◌-◌, ◌<◌, ◌≤◌, Bool, true, false, cond, eqb, ltb, ◌⊎◌, List, [], ◌∷◌, ◌++◌, length, take, drop, Some, None, Ok, Err, Option, Result, sym, refl, ap, ◌∙◌, subst, inl, inr, arith, length-drop, take-append-drop}
+use Rattle.std.proofs.Common.{◌≡◌, ℕ, ◌+◌, ◌-◌, ◌<◌, ◌≤◌, Bool, true, false, cond, eqb, ltb, ◌⊎◌, List, [], ◌∷◌, ◌++◌, length, Some, None, Ok, Err, Option, Result, sym, refl, ap, ◌∙◌, subst, inl, inr, arith, length-drop, take-append-drop}
 use mathlib.Core.Bool.{false≢true}
 use Rattle.std.proofs.lemmas.List.{length-take-le}
 use Rattle.std.proofs.lemmas.Bool.{and_parts, or_cases, eqb-true, eqb-false, ltb-true, leb-true, not-true, cond-true, cond-false, eq-eqb, ne_eqb}
@@ -21,7 +21,7 @@ use Rattle.rules.specs.Board.{on_opened, judge_data, judge_key, on_data, on_key,
 use Rattle.rules.specs.declared.Session.{Session}
 use Rattle.rules.specs.declared.Session.TheVariants.{Closed as closed, Expects as expects}
 use Rattle.rules.specs.Packets.{iv_of, body_of}
-use Rattle.rules.specs.Words.{Arrives, Begins, Passes, Undisturbed, Sealed, Delivery}
+use Rattle.rules.specs.Words.{Arrives, Begins, Passes, Undisturbed, SealedAs, Sealed, Delivery}
 use Rattle.rules.proofs.Frames.{data_begins, key_begins, begins_data}
 
 -- a list of checks that passed
@@ -109,6 +109,7 @@ pub record OpenedKey (C : Cipher) (s : State) (core : List ℕ) (p : KeyPacket) 
   pub contents : List ℕ
   pub opens : C.opened (kek s.contents.held) (iv_of core) (body_of core) ≡ Some contents
   pub holds : key_fields contents ≡ p
+  pub typed : (p.kt ≡ 0) ⊎ (p.kt ≡ 2)
   pub above : (key_record s.contents.held (slot_place (slot p.kt))).version < p.kv
 
 ok_same : (p q : KeyPacket) → ◌≡◌ {A = Result KeyPacket Fault} (Ok p) (Ok q) → p ≡ q
@@ -120,6 +121,14 @@ key_fields_passed s p q e =
     let a = check_passed _ _ _ q e in
     let b = check_passed (ltb (key_record s.contents.held (slot_place (slot p.kt))).version p.kv) _ (Ok p) q a.1 in
     (ok_same p q b.1, ltb-true _ _ b.0)
+
+key_type_passed : (s : State) (p q : KeyPacket) → judge_key_fields s p ≡ Ok q → (p.kt ≡ 0) ⊎ (p.kt ≡ 2)
+unfolding judge_key_fields
+key_type_passed s p q e =
+    elim (or_cases (eqb p.kt 0) (eqb p.kt 2) (check_passed _ _ _ q e).0) [
+      | inl h ↦ inl (eqb-true _ _ h)
+      | inr h ↦ inr (eqb-true _ _ h)
+    ]
 
 pub key_passed : (C : Cipher) (s : State) (core : List ℕ) (p : KeyPacket) → judge_key C s core ≡ Ok p → OpenedKey C s core p
 unfolding judge_key
@@ -134,6 +143,7 @@ key_passed C s core p e =
       contents = c.0;
       opens = c.1;
       holds = f.0;
+      typed = subst (λ (q : KeyPacket). (q.kt ≡ 0) ⊎ (q.kt ≡ 2)) f.0 (key_type_passed s (key_fields c.0) p c.2);
       above = subst (λ (q : KeyPacket). (key_record s.contents.held (slot_place (slot q.kt))).version < q.kv) f.0 f.1;
     }
 
@@ -266,23 +276,31 @@ key_bytes C L s core p k o =
     let m : length (body_of core) ≡ length core - 17 = length-drop 17 core in
     sym (ap (λ (q : KeyPacket). length q.key) o.holds) ∙ (length-drop 2 o.contents ∙ omega (arith, o.long))
 
-pub sealed : (C : Cipher) → Lawful C → (d : Delivery) → length (data_key d.at.before.contents.held) ≡ 16 → Passes C d.at d.packet → Sealed C d
-sealed C L d k h =
-    let o = data_passed C d.at.before h.core d.packet h.unrefused in
-    let rest = h.begins.0 in
-    let iv : List ℕ = take 16 rest in
-    let e : h.core ≡ 0x30 ∷ rest = h.begins.1 in
-    let i : iv_of h.core ≡ iv = ap iv_of e in
-    let b : body_of h.core ≡ drop 16 rest = ap body_of e in
-    let n : 16 ≤ length rest = omega (arith, o.long, ap length e) in
-    let made = (L.sound (data_key d.at.before.contents.held) (iv_of h.core) (body_of h.core) o.contents
-    (k, iv_long h.core (omega (arith, o.long)), o.well_formed) o.opens).0 in
-    let made' : C.seal (data_key d.at.before.contents.held) iv o.contents ≡ drop 16 rest = cc in
+whole_core : (core rest : List ℕ) → core ≡ 0x30 ∷ rest → core ≡ 0x30 ∷ (iv_of core ++ body_of core)
+whole_core core rest e = subst (λ (l : List ℕ). l ≡ 0x30 ∷ (iv_of l ++ body_of l)) (sym e) (ap (λ (l : List ℕ). 0x30 ∷ l) (sym (take-append-drop 16 rest)))
+
+-- a data packet that passes is sealed under the held data key
+pub sealed_as : (C : Cipher) → Lawful C → (c : Call) (p : Packet) → length (data_key c.before.contents.held) ≡ 16 → (h : Passes C c p)
+    → SealedAs C (data_key c.before.contents.held) h.core p
+sealed_as C L c p k h =
+    let key : List ℕ = data_key c.before.contents.held in
+    let core : List ℕ = h.core in
+    let o = data_passed C c.before core p h.unrefused in
+    let iv_bytes : length (iv_of core) ≡ 16 = iv_long core (omega (arith, o.long)) in
+    let usable : Usable C key (iv_of core) = (k, iv_bytes, o.well_formed) in
+    let made = L.sound key (iv_of core) (body_of core) o.contents usable o.opens in
+    let n : length (body_of core) ≡ length o.contents + 16 = sym (ap length made.0) ∙ L.longer key (iv_of core) o.contents usable made.1 in
+    let m : length (body_of core) ≡ length core - 17 = length-drop 17 core in
     record {
-      iv = iv;
+      iv = iv_of core;
       contents = o.contents;
-      iv_bytes = length-take-le 16 rest n;
-      well_formed = sym (ap C.well_formed i) ∙ o.well_formed;
-      arrives = h.arrives ∙ ap framed (e ∙ ap (λ (l : List ℕ). 0x30 ∷ l) (sym (take-append-drop 16 rest) ∙ ap (λ (l : List ℕ). iv ++ l) (sym made')));
+      iv_bytes = iv_bytes;
+      well_formed = o.well_formed;
+      at_least = omega (arith, o.long);
+      at_most = made.1;
+      core_is = whole_core core h.begins.0 h.begins.1 ∙ ap (λ (l : List ℕ). 0x30 ∷ (iv_of core ++ l)) (sym made.0);
       holds = o.holds;
     }
+
+pub sealed : (C : Cipher) → Lawful C → (d : Delivery) → length (data_key d.at.before.contents.held) ≡ 16 → Passes C d.at d.packet → Sealed C d
+sealed C L d k h = record { core = h.core; arrives = h.arrives; sealed_as = sealed_as C L d.at d.packet k h }

@@ -1,4 +1,4 @@
--- The rules at examples: the version that may open, a listing, and for each promise a run that it speaks of.
+-- The rules at examples: a listing, and for each promise a run that it speaks of.
 use Rattle.std.proofs.Common.{◌≡◌, ℕ, suc, ◌/◌, ◌%◌, ◌<◌, ◌≤◌, Bool, true, false, cond, eqb, leb, List, [], ◌∷◌, ◌++◌, map, length, get_or, set, replicate, Some, None, Ok, Option, sym, refl, ap, ◌∙◌, subst, inl, inr, true≢false, arith, lit<, length-set}
 use lib.ListN.{length-replicate, get_or-replicate}
 use Rattle.std.proofs.lemmas.List.{get_or-set_same, get_or-set_other, append_cancel_left, length-append}
@@ -13,13 +13,13 @@ use Rattle.wire.specs.Frame.{frame}
 use Rattle.cipher.specs.Cipher.{Cipher, Lawful}
 use Rattle.rules.specs.declared.Event.{Event}
 use Rattle.rules.specs.declared.Event.TheVariants.{Byte, Question, PowerUp}
+use Rattle.rules.specs.declared.Boot.TheVariants.{Application}
 use Rattle.rules.specs.Memory.{data_key, kek}
 use Rattle.rules.specs.Commands.{command}
 use Rattle.rules.specs.Board
 use Rattle.rules.specs.Board.{run, State, Call, Packet, call, history, step, fresh, may_open, judge_fields}
 use Rattle.rules.specs.Words.{Each, version, Boots, Arrives, Opens, here}
 use Rattle.rules.specs.Promises.{Given, start, Endlessly}
-use Rattle.rules.specs.Examples.{SameVersion}
 use Rattle.rules.specs.Instances.{ResumedUpdate, Replay, Parting, RunsExist}
 use Rattle.rules.proofs.Runs.{run_append, history_append}
 use Rattle.rules.proofs.OneList.{packets_exist}
@@ -125,10 +125,6 @@ every_rule : Unit {0}
 unfolding receiving judging storing run fresh step Board.decide Board.respond Board.obey Board.on_data Board.enact
 every_rule = tt
 
-pub same_version : SameVersion
-unfolding judging storing Board.on_data Board.enact
-same_version = (refl, refl)
-
 -- the packet arrives at a board that has read all but its last byte
 abbrev arrival : State → Call
 arrival s = call open_cipher s last_byte
@@ -139,7 +135,7 @@ application : (s : State) (a : ℕ) → s.dark ≡ false → s.contents.held.unf
 unfolding step Board.decide Board.heard Board.respond Board.enact Board.boot place all_areas
 application s a d m v n =
     let no_blank : eqb (get_or s.contents.image 44670 0) 255 ≡ false = ne_eqb _ _ (λ e. n (sym v ∙ e)) in
-    record { asks = refl; answers = cc }
+    record { asks = refl; said = Application; answers = cc; application = refl }
 
 first_boots : Boots (call open_cipher (start (board 0)) Question)
 unfolding fresh

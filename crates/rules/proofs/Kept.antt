@@ -6,6 +6,7 @@ use Rattle.memory.specs.declared.supply.Supply.{Supply}
 use Rattle.rules.specs.declared.Event.{Event}
 use Rattle.memory.specs.declared.held.Held.{Held}
 use Rattle.memory.specs.declared.held.KeyRecord.{KeyRecord}
+use Rattle.memory.specs.declared.held.KeySlot.{KeySlot}
 use Rattle.memory.specs.declared.held.KeySlot.TheVariants.{Data, Kek}
 use Rattle.memory.specs.Held.{slot_place}
 use Rattle.memory.specs.Meaning.{Contents, Step}
@@ -201,12 +202,11 @@ abbrev pub KeyPast : ℕ → ℕ → Held → Type 0
 KeyPast i v h = v ≤ (key_record h i).version
 
 pub slot_small : (kt : ℕ) → slot_place (slot kt) < 2
-unfolding slot
-slot_small kt = small (eqb kt 0)
+slot_small kt = small (slot kt)
   where
-    small : (b : Bool) → slot_place (cond b Data Kek) < 2
-    small true = omega arith
-    small false = omega arith
+    small : (k : KeySlot) → slot_place k < 2
+    small Data = omega arith
+    small Kek = omega arith
 
 module _ (C : Cipher) (s : State) (e : Event) (i v : ℕ) (g : Sound s) (h : KeyPast i v s.contents.held) where
   abbrev At : List KeyRecord → Type 0

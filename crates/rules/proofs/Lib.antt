@@ -11,7 +11,9 @@ pub mod Once
 pub mod Moves
 pub mod Updates
 pub mod OneList
+pub mod KeyTypes
 pub mod Laws
 pub mod Refusing
 pub mod Promised
 pub mod Examples
+pub mod SameVersion

@@ -8,7 +8,8 @@ use Rattle.rules.specs.declared.Event.{Event}
 use Rattle.memory.specs.declared.held.Held.{Held}
 use Rattle.memory.specs.declared.held.KeyRecord.{KeyRecord}
 use Rattle.memory.specs.Held.{slot_place}
-use Rattle.memory.specs.Meaning.{Contents}
+use Rattle.memory.specs.Meaning.{Contents, apply}
+use Rattle.memory.specs.Meaning.Step.{set_key}
 use Rattle.rules.specs.Memory.{key_record, no_key, data_key, kek}
 use Rattle.cipher.specs.Cipher.{Cipher, Lawful}
 use Rattle.rules.specs.Board.{run, State, Call, Outcome, Deed, turns, clears, erases, stores, rekeys, powers, no_packet, Packet, KeyPacket, on_data, on_key, judge_data}
@@ -42,23 +43,29 @@ module _ (C : Cipher) (s : State) (e : Event) where
   key_turned_down core (Err f) a b q n = turned_down f (key_decides C (call C s e) core a b ∙ ap on_key q)
   key_turned_down core (Ok p) a b q n = absurd (n p q)
 
--- the first time, of a key packet: its version is held
-module _ (C : Cipher) (s : State) (e : Event) (g : Sound s) where
-  set_version_held : (p : KeyPacket) (o : Outcome) → Rekeyed s p o → o.answer.refusal ≡ None → KeyPast (slot_place (slot p.kt)) p.kv o.state.contents.held
-  set_version_held p o (key_cut r x c) t = some_none _ _ r t
-  set_version_held p o (key_set r x c) t =
-      let small = slot_small p.kt in
-      let there = get_or-set_same s.contents.held.keys (slot_place (slot p.kt)) (record { key = p.key; version = p.kv }) no_key (omega (arith, g.two)) in
-      let is : (key_record o.state.contents.held (slot_place (slot p.kt))).version ≡ p.kv =
-      ap (λ (d : Contents). (key_record d.held (slot_place (slot p.kt))).version) c ∙ ap (λ (r : KeyRecord). r.version) there in
-      omega arith
+-- the first time, of a key packet: its key record is set
+module _ (C : Cipher) (s : State) (e : Event) where
+  abbrev Sets : KeyPacket → Contents → Type 0
+  Sets p c = c ≡ apply (set_key (slot p.kt) (record { key = p.key; version = p.kv })) s.contents
 
-  key_taken : (core : List ℕ) (j : Result KeyPacket Fault) → judge_key C s core ≡ j → decide C s e ≡ on_key j → (step C s e).answer.refusal ≡ None
-      → (p : KeyPacket) × (judge_key C s core ≡ Ok p) × KeyPast (slot_place (slot p.kt)) p.kv (step C s e).state.contents.held
+  taken_sets : (p : KeyPacket) (o : Outcome) → Rekeyed s p o → o.answer.refusal ≡ None → Sets p o.state.contents
+  taken_sets p o (key_cut r x c) t = some_none _ _ r t
+  taken_sets p o (key_set r x c) t = c
+
+  pub key_taken : (core : List ℕ) (j : Result KeyPacket Fault) → judge_key C s core ≡ j → decide C s e ≡ on_key j → (step C s e).answer.refusal ≡ None
+      → (p : KeyPacket) × (judge_key C s core ≡ Ok p) × Sets p (step C s e).state.contents
   unfolding on_key step enact
   key_taken core (Err f) q d t = some_none (step C s e).answer.refusal f (ap (λ (x : Deed). (enact x s).answer.refusal) d) t
-  key_taken core (Ok p) q d t =
-      (p, q, set_version_held p (step C s e) (subst (λ (x : Deed). Rekeyed s p (enact x s)) (sym d) (rekeyed s p)) t)
+  key_taken core (Ok p) q d t = (p, q, taken_sets p (step C s e) (subst (λ (x : Deed). Rekeyed s p (enact x s)) (sym d) (rekeyed s p)) t)
+
+  -- and so its version is held
+  version_held : Sound s → (p : KeyPacket) (c : Contents) → Sets p c → KeyPast (slot_place (slot p.kt)) p.kv c.held
+  version_held g p c i =
+      let small = slot_small p.kt in
+      let there = get_or-set_same s.contents.held.keys (slot_place (slot p.kt)) (record { key = p.key; version = p.kv }) no_key (omega (arith, g.two)) in
+      let is : (key_record c.held (slot_place (slot p.kt))).version ≡ p.kv =
+      ap (λ (d : Contents). (key_record d.held (slot_place (slot p.kt))).version) i ∙ ap (λ (r : KeyRecord). r.version) there in
+      omega arith
 
 -- one packet opened twice under one key value
 same_packet : (C : Cipher) (s t : State) (core : List ℕ) (p q : Packet) → data_key s.contents.held ≡ data_key t.contents.held → judge_data C s core ≡ Ok p
@@ -245,11 +252,11 @@ module _ (C : Cipher) (L : Lawful C) (s : State) (es : List Event) (g : Sound s)
       let there : last ≡ run C t' sp.back = ap (run C s) (sym sp.events_are) ∙ run_append C s sp.front (sp.event ∷ sp.back) in
       let a₁ : Arrives (call C t sp.event) core = subst (λ (z : Call). Arrives z core) (sym sp.call_is) a in
       let k₁ : kek t.contents.held ≡ kek last.contents.held = subst (λ (z : Call). kek z.before.contents.held ≡ kek last.contents.held) (sym sp.call_is) k in
-      let first_time = key_taken C t sp.event gt core (judge_key C t core) refl (key_decides C (call C t sp.event) core a₁ b) (subst Taken (sym sp.call_is) tk) in
+      let first_time = key_taken C t sp.event core (judge_key C t core) refl (key_decides C (call C t sp.event) core a₁ b) (subst Taken (sym sp.call_is) tk) in
       let p = first_time.0 in
       let past : KeyPast (slot_place (slot p.kt)) p.kv last.contents.held =
       subst (λ (z : State). KeyPast (slot_place (slot p.kt)) p.kv z.contents.held) (sym there)
-      (key_past_run C L t' sp.back (slot_place (slot p.kt)) p.kv (sound_step C t sp.event L gt) first_time.2) in
+      (key_past_run C L t' sp.back (slot_place (slot p.kt)) p.kv (sound_step C t sp.event L gt) (version_held C t sp.event gt p t'.contents first_time.2)) in
       key_turned_down C last e core (judge_key C last core) a' b refl
       (λ q j.
       let is : p ≡ q = same_key_packet C t last core p q k₁ first_time.1 j in

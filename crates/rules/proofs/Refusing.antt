@@ -1,5 +1,5 @@
 -- Which refusals a call can answer, and what a packet that passes shows.
-use Rattle.std.proofs.Common.{◌≡◌, ℕ, zero, suc, ◌+◌, ◌-◌, ◌*◌, ◌<◌, ◌≤◌, Bool, true, false, cond, ◌&&◌, eqb, ltb, leb, ◌⊎◌, List, [], ◌∷◌, ◌++◌, length, get_or, is_some, Some, None, Ok, Err, Option, Result, sym, refl, ap, ◌∙◌, subst, inl, inr, true≢false, arith, length-drop, take-append-drop}
+use Rattle.std.proofs.Common.{◌≡◌, ℕ, zero, suc, ◌+◌, ◌*◌, ◌<◌, ◌≤◌, Bool, true, false, cond, ◌&&◌, eqb, ltb, leb, ◌⊎◌, List, [], ◌∷◌, length, get_or, is_some, Some, None, Ok, Err, Option, Result, sym, refl, ap, ◌∙◌, subst, inl, inr, true≢false, arith}
 use Rattle.std.proofs.lemmas.List.{take_at, drop_at}
 use Rattle.std.proofs.lemmas.Bool.{and_parts, or_parts, eqb-true, eqb-false, ltb-true, ltb-false, leb-true, cond_both, cond-true, cond-false, cases_Bool}
 use Rattle.fault.specs.Checks.{then}
@@ -10,7 +10,7 @@ use Rattle.fault.specs.declared.Fault.TheVariants.{OutsideArea, BadKeyType, OldK
 use Rattle.memory.specs.declared.supply.Supply.TheVariants.{Steps}
 use Rattle.memory.specs.Areas.{place, first_outside, refused_at}
 use Rattle.memory.specs.Held.{slot_place}
-use Rattle.cipher.specs.Cipher.{Cipher, Lawful, Usable}
+use Rattle.cipher.specs.Cipher.{Cipher, Lawful}
 use Rattle.memory.proofs.Places.{map_below}
 use Rattle.rules.specs.declared.Event.{Event}
 use Rattle.rules.specs.declared.Event.TheVariants.{Byte, Silence, Question, PowerUp}
@@ -25,12 +25,12 @@ use Rattle.rules.specs.Commands.{command, longer, message}
 use Rattle.rules.specs.Board.{State, Call, Outcome, refuses, Packet, KeyPacket, word, fields, key_fields, slot, in_order, judge_fields, judge_key_fields}
 use Rattle.rules.specs.Board.{on_opened, judge_data, judge_key, Heard, turned_away, part, framed, silence, question, heard, heard_read, Deed, turns}
 use Rattle.rules.specs.Board.{stores, on_data, on_key, obey, respond, decide, enact, step, call, run}
-use Rattle.rules.specs.Words.{Each, Arrives, Begins, Passes}
+use Rattle.rules.specs.Words.{Each, Arrives, Begins, Passes, SealedAs}
 use Rattle.rules.specs.Promises.{start}
 use Rattle.rules.specs.Arrival.{InByte, GivesByte}
-use Rattle.rules.specs.Laws.{SealedAs, Unrefused, PassingShows, DarkWhenSpent, OpensToBytes, OfByte, RefusalOf, EachCallHasItsRefusals}
+use Rattle.rules.specs.Laws.{Unrefused, PassingShows, DarkWhenSpent, OpensToBytes, OfByte, RefusalOf, EachCallHasItsRefusals}
 use Rattle.rules.proofs.Receipt.{Possible, good_framed}
-use Rattle.rules.proofs.Deeds.{data_passed, data_decides, iv_long, passes_stores}
+use Rattle.rules.proofs.Deeds.{data_passed, data_decides, iv_long, passes_stores, sealed_as}
 use Rattle.rules.proofs.Runs.{split}
 use Rattle.rules.proofs.Kept.{sound_start, sound_run, each_at}
 use Rattle.rules.proofs.Once.{some_none}
@@ -398,9 +398,6 @@ each_call_has_its_refusals C L g events k x z c f e r =
     (call_answers C L t sp.event h.possible b.1 f) r
 
 -- What a packet that passes shows.
-whole_core : (core rest : List ℕ) → core ≡ 0x30 ∷ rest → core ≡ 0x30 ∷ (iv_of core ++ body_of core)
-whole_core core rest e = subst (λ (l : List ℕ). l ≡ 0x30 ∷ (iv_of l ++ body_of l)) (sym e) (ap (λ (l : List ℕ). 0x30 ∷ l) (sym (take-append-drop 16 rest)))
-
 module _ (C : Cipher) (L : Lawful C) (s : State) (e : Event) (core : List ℕ) (p : Packet)
     (key_long : length (data_key s.contents.held) ≡ 16) (a : heard s e ≡ framed core) where
   abbrev key : List ℕ
@@ -409,22 +406,7 @@ module _ (C : Cipher) (L : Lawful C) (s : State) (e : Event) (core : List ℕ) (
   passes_sealed : Passes C (call C s e) p → SealedAs C key core p
   passes_sealed h =
       let same : h.core ≡ core = cc (h.arrives, a) in
-      let o = data_passed C s core p (subst (λ (l : List ℕ). judge_data C s l ≡ Ok p) same h.unrefused) in
-      let iv_bytes : length (iv_of core) ≡ 16 = iv_long core (omega (arith, o.long)) in
-      let usable : Usable C key (iv_of core) = (key_long, iv_bytes, o.well_formed) in
-      let made = L.sound key (iv_of core) (body_of core) o.contents usable o.opens in
-      let n : length (body_of core) ≡ length o.contents + 16 = sym (ap length made.0) ∙ L.longer key (iv_of core) o.contents usable made.1 in
-      let m : length (body_of core) ≡ length core - 17 = length-drop 17 core in
-      record {
-        iv = iv_of core;
-        contents = o.contents;
-        iv_bytes = iv_bytes;
-        well_formed = o.well_formed;
-        at_least = omega (arith, o.long);
-        at_most = made.1;
-        core_is = whole_core core h.begins.0 (sym same ∙ h.begins.1) ∙ ap (λ (l : List ℕ). 0x30 ∷ (iv_of core ++ l)) (sym made.0);
-        holds = o.holds;
-      }
+      subst (λ (l : List ℕ). SealedAs C key l p) same (sealed_as C L (call C s e) p key_long h)
 
   ends_unrefused : (o : Outcome) → Ends o → (o.answer.refusal ≡ None) ⊎ (o.answer.refusal ≡ Some Dark)
   ends_unrefused o (went_dark r u d) = inr r

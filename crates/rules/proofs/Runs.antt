@@ -1,4 +1,4 @@
--- Histories: how they split, and what every state on the way satisfies.
+-- Histories: how they split and join, and what every state on the way satisfies.
 use Rattle.std.proofs.Common.{◌≡◌, ℕ, zero, suc, Bool, true, false, eqb, ◌⊎◌, List, [], ◌∷◌, ◌++◌, length, Some, None, sym, refl, ap, ◌∙◌, inl, inr, arith}
 use mathlib.Core.Bool.{false≢true}
 use Rattle.std.proofs.lemmas.Bool.{eqb-true, eqb-false}
@@ -15,6 +15,7 @@ use Rattle.cipher.specs.Cipher.{Cipher}
 use Rattle.rules.specs.Board.{run, State, Call, Outcome, erases, stores, rekeys, Packet, KeyPacket, call, step, enact}
 use Rattle.rules.specs.Board.{carry_out, ended, data_steps, opening_steps, closing_steps, session_after, key_steps, history, slot}
 use Rattle.rules.specs.declared.Session.TheVariants.{Closed as closed}
+use Rattle.rules.specs.Laws.{board_behind, HistoriesJoin}
 use Rattle.memory.proofs.Performs.{perform_all}
 use Rattle.rules.proofs.Steps.{supply_cases, applied_packet, written, packet_steps, dark_packet, dark_opening}
 use Rattle.rules.proofs.Steps.{opening_none, image_long, erase_held, erase_none, erase_blanks, Blanked}
@@ -57,6 +58,14 @@ pub history_append : (C : Cipher) (s : State) (xs ys : List Event) → history C
 unfolding history run
 history_append C s [] ys = refl
 history_append C s (e ∷ xs) ys = ap (λ (l : List Call). call C s e ∷ l) (history_append C (step C s e).state xs ys)
+
+run_behind : (C : Cipher) (s : State) (es : List Event) → run C s es ≡ board_behind s (history C s es)
+unfolding history run
+run_behind C s [] = refl
+run_behind C s (e ∷ es) = run_behind C (step C s e).state es
+
+pub histories_join : HistoriesJoin
+histories_join C s first second = record { histories = history_append C s first second; left = run_behind C s first; boards = run_append C s first second }
 
 -- What a data packet that passed leaves: nothing at all, its steps cut short, or all of them.
 pub data Stored (s : State) (p : Packet) (o : Outcome) : Type 0 where

@@ -67,8 +67,8 @@ same_heard s t Question h = cc
 same_heard s t (PowerUp u) h = refl
 
 -- what the last of a list of steps leaves, with a supply without end
-record Carried (o : Outcome) : Type 0 where
-  answers : o.answer ≡ sends (message 0)
+pub record Carried (o : Outcome) : Type 0 where
+  pub answers : o.answer ≡ sends (message 0)
   now_idle : o.state.receiver ≡ idle
   still_lit : o.state.dark ≡ false
   still_endless : o.state.supply ≡ NoEnd
@@ -78,7 +78,7 @@ unfolding ended
 ended_lit n c u true e f = absurd (true≢false f)
 ended_lit n c u false e f = record { answers = refl; now_idle = refl; still_lit = refl; still_endless = e }
 
-carried : (xs : List Step) (n : Session) (s : State) → s.supply ≡ NoEnd → Carried (carry_out xs n s)
+pub carried : (xs : List Step) (n : Session) (s : State) → s.supply ≡ NoEnd → Carried (carry_out xs n s)
 unfolding carry_out
 carried xs n s e =
     let P : Supply → Type 0 = λ u. Carried (ended n (perform xs u s.contents).contents (perform xs u s.contents).supply (perform xs u s.contents).dark) in

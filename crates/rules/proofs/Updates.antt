@@ -4,13 +4,14 @@ use mathlib.Core.Path.{transport}
 use Rattle.std.proofs.lemmas.Bool.{cases_eq, eq-eqb, ne_eqb, cond-true, cond-false}
 use Rattle.fault.specs.declared.Fault.TheVariants.{Dark}
 use Rattle.rules.specs.declared.Event.{Event}
+use Rattle.rules.specs.declared.Boot.{Boot}
 use Rattle.rules.specs.declared.Boot.TheVariants.{Application, Blank, Unfinished}
 use Rattle.memory.specs.declared.held.Held.{Held}
 use Rattle.memory.specs.Meaning.{Contents}
 use Rattle.rules.specs.Memory.{blank, lay, data_key}
 use Rattle.cipher.specs.Cipher.{Cipher, Lawful}
 use Rattle.rules.specs.Board.{run, State, Call, Outcome, Packet, turned_away, question, call, step, decide, respond, heard, enact}
-use Rattle.rules.specs.Board.{boot, session_after, history}
+use Rattle.rules.specs.Board.{boot, boot_number, session_after, history}
 use Rattle.rules.specs.declared.Session.{Session}
 use Rattle.rules.specs.declared.Session.TheVariants.{Closed as closed, Expects as expects}
 use Rattle.rules.specs.Words.{here, later, Each, version, memory, Boots, Taken, Opens, Opened, Latest, Delivery, Packets, end}
@@ -42,11 +43,17 @@ question_ready C s false e =
     let r = boot_ready (mark s) (blank s.contents) is in
     (record { unmarked = r.0; vector = r.1 }, refl)
 
+-- of the answers only 'application' has the number 1
+one_boots : (b : Boot) → boot_number b ≡ 1 → b ≡ Application
+one_boots Application e = refl
+one_boots Blank e = absurd (omega arith)
+one_boots Unfinished e = absurd (omega arith)
+
 boots_ready : (C : Cipher) (s : State) (e : Event) → Boots (call C s e) → Ready s × ((step C s e).state ≡ s)
 unfolding step decide heard
 boots_ready C s e b =
     subst (λ (x : Event). Ready s × ((step C s x).state ≡ s)) (sym b.asks)
-    (question_ready C s s.dark (subst (λ (x : Event). (step C s x).answer.said ≡ Some Application) b.asks b.answers))
+    (question_ready C s s.dark (subst (λ (x : Event). (step C s x).answer.said ≡ Some Application) b.asks (b.answers ∙ ap Some (one_boots b.said b.application))))
 
 data_key_bytes : (s : State) → Sound s → length (data_key s.contents.held) ≡ 16
 data_key_bytes s g = each_at s.contents.held.keys 0 g.sixteen (omega (arith, g.two))
@@ -134,6 +141,7 @@ version_stays C s (e ∷ es) n = version_stays C (step C s e).state es (λ o. n 
 -- An open session, up to a board that answers 'application': the rest of the update's packets.
 pub record Rest (C : Cipher) (s : State) (es fs : List Event) (n v m : ℕ) : Type 0 where
   pub packets : List Delivery
+  pub unbroken_there : Unbroken C (history C s es) packets
   pub unbroken : Unbroken C (history C s (es ++ fs)) packets
   pub numbered : Numbered n v m packets
   pub sealed_all : Each (Sealed C) packets
@@ -152,6 +160,7 @@ rest_over : (C : Cipher) → Lawful C → (s : State) (es fs : List Event) (n v 
     → Ready (run C s es) → Rest C s es fs n v m
 rest_over C L s es fs n v m g c k o r = record {
   packets = [];
+  unbroken_there = done (closed_packets C s es c);
   unbroken = done (closed_packets C s (es ++ fs) c);
   numbered = k;
   sealed_all = tt;
@@ -172,7 +181,14 @@ session_rest C L s (e ∷ es) fs n v m g x w o r =
       | inl k ↦ absurd (o (here k))
       | inr (k, stays u t l i y) ↦
           let h = session_rest C L s' es fs n v m g' (y ∙ x) (l.same_version ∙ w) o' r in
-          record { packets = h.packets; unbroken = calm u t k h.unbroken; numbered = h.numbered; sealed_all = h.sealed_all; laid = h.laid ∙ ap (laid_over h.packets) i }
+          record {
+            packets = h.packets;
+            unbroken_there = calm u t k h.unbroken_there;
+            unbroken = calm u t k h.unbroken;
+            numbered = h.numbered;
+            sealed_all = h.sealed_all;
+            laid = h.laid ∙ ap (laid_over h.packets) i;
+          }
       | inr (k, ends t l y i) ↦ broken y l.same_mark
       | inr (k, breaks t l y a b q) ↦ broken y l.same_mark
       | inr (k, takes p t u q z y i a) ↦
@@ -180,6 +196,7 @@ session_rest C L s (e ∷ es) fs n v m g x w o r =
           let np_is : p.np ≡ m = cc in
           let more : Rest C s' es fs (suc n) v m → Rest C s (e ∷ es) fs n v m = λ h. record {
             packets = record { at = call C s e; packet = p } ∷ h.packets;
+            unbroken_there = next t k h.unbroken_there;
             unbroken = next t k h.unbroken;
             numbered = (pn_is, z ∙ w, np_is, h.numbered);
             sealed_all = (sealed C L (record { at = call C s e; packet = p }) (data_key_bytes s g) t.passes, h.sealed_all);
@@ -306,8 +323,12 @@ module _ (C : Cipher) (L : Lawful C) (s : State) (es : List Event) (e : Event) (
   abbrev tail : List Call
   tail = history C (step C end_state e).state fs
 
+  -- ds are the packets behind the first among the calls l, and with them the update is whole
   abbrev Found : List Call → Packet → Call → List Delivery → Type 0
-  Found l p u ds = Packets C l ds × Whole C (record { at = u; packet = p }) l ds × (memory end_state ≡ laid_over (record { at = u; packet = p } ∷ ds) (memory u.before))
+  Found l p u ds = Packets C l ds × Whole C (record { at = u; packet = p }) l ds
+
+  abbrev Laid : Packet → Call → List Delivery → Type 0
+  Laid p u ds = memory end_state ≡ laid_over (record { at = u; packet = p } ∷ ds) (memory u.before)
 
   latest_whole : (u : Latest C (history C s es)) → (ds : List Delivery) × Complete C u (call C end_state e) tail ds
   unfolding run history
@@ -326,16 +347,27 @@ module _ (C : Cipher) (L : Lawful C) (s : State) (es : List Event) (e : Event) (
       let ds = rest.packets in
       let calls : history C t' (sp.back ++ e ∷ fs) ≡ u.behind ++ call C end_state e ∷ tail =
       history_append C t' sp.back (e ∷ fs) ∙ (λ i. sp.back_is i ++ (call C (sym there i) e ∷ history C (step C (sym there i) e).state fs)) in
-      let bytes : memory end_state ≡ laid_over ds (lay p.address p.bytes (memory t)) = ap (λ (k : State). memory k) there ∙ (rest.laid ∙ ap (laid_over ds) r.1) in
-      let whole_here : Whole C (record { at = c; packet = p }) (history C t' (sp.back ++ e ∷ fs)) ds = record {
-        taken = r.0;
-        unbroken = rest.unbroken;
-        numbered = (opens.first, refl, refl, rest.numbered);
-        sealed = (sealed C L (record { at = c; packet = p }) (data_key_bytes t gt) opens.passes, rest.sealed_all);
-      } in
-      let found : Found (history C t' (sp.back ++ e ∷ fs)) p c ds = (unbroken_packets rest.unbroken, whole_here, bytes) in
-      let moved : Found (u.behind ++ call C end_state e ∷ tail) p u.at ds = transport (λ i. Found (calls i) p (sp.call_is i) ds) found in
-      (ds, record { packets = moved.0; whole = moved.1; laid = moved.2 })
+      let bytes : Laid p c ds = ap (λ (k : State). memory k) there ∙ (rest.laid ∙ ap (laid_over ds) r.1) in
+      let found : (l : List Call) → Unbroken C l ds → Found l p c ds = λ l b. (
+        unbroken_packets b,
+        record {
+          taken = r.0;
+          unbroken = b;
+          numbered = (opens.first, refl, refl, rest.numbered);
+          sealed = (sealed C L (record { at = c; packet = p }) (data_key_bytes t gt) opens.passes, rest.sealed_all);
+        },
+      ) in
+      let here : Found u.behind p u.at ds = transport (λ i. Found (sp.back_is i) p (sp.call_is i) ds) (found _ rest.unbroken_there) in
+      let on : Found (u.behind ++ call C end_state e ∷ tail) p u.at ds = transport (λ i. Found (calls i) p (sp.call_is i) ds) (found _ rest.unbroken) in (
+        ds,
+        record {
+          all_there = here.0;
+          whole_there = here.1;
+          packets = on.0;
+          whole = on.1;
+          laid = transport (λ i. Laid p (sp.call_is i) ds) bytes;
+        },
+      )
 
   updated : (q : Call) → Ready s → version q.before ≡ version s → memory q.before ≡ memory s → Updated C q (history C s es) (call C end_state e) tail
   updated q a v m =

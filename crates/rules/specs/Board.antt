@@ -128,7 +128,7 @@ fields c = record { ver = slice_index c 0; pn = word c 1; np = word c 3; address
 unfoldable pub key_fields : List ℕ → KeyPacket
 key_fields c = record { kt = slice_index c 0; kv = slice_index c 1; key = drop 2 c }
 
--- key type 0 is the data key, any other the key-encryption key
+-- key type 0 is the data key, any other the key-encryption key: a check lets no type but 0 and 2 come here
 unfoldable pub slot : ℕ → KeySlot
 slot kt = cond (kt == 0) DataKey KekKey
 

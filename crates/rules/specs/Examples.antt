@@ -1,30 +1,51 @@
 -- A worked example: the version that may open.
-use Rattle.std.specs.Prelude.{◌≡◌, Bool, true, false, [], ◌∷◌, Some, None, Option}
-use Rattle.fault.specs.declared.Fault.{Fault}
+use Rattle.std.specs.Prelude.{◌≡◌, ℕ, Bool, true, false, List, [], ◌∷◌, ◌++◌, length}
 use Rattle.fault.specs.declared.Fault.TheVariants.{MayNotOpen}
 use Rattle.memory.specs.declared.supply.Supply.TheVariants.{NoEnd}
-use Rattle.rules.specs.declared.Session.TheVariants.{Closed}
-use Rattle.rules.specs.Receiver.Receiver.{idle}
-use Rattle.rules.specs.Board.{State, Packet, judge_fields, on_data, enact}
+use Rattle.memory.specs.Held.{first_key}
+use Rattle.memory.specs.Meaning.{Contents}
+use Rattle.cipher.specs.Cipher.{Cipher, Lawful}
+use Rattle.rules.specs.declared.Event.{Event}
+use Rattle.rules.specs.Memory.{data_key}
+use Rattle.rules.specs.Commands.{message}
+use Rattle.rules.specs.Board.{State, Call, call, step, refuses, sends}
+use Rattle.rules.specs.Words.{version, Arrives}
+use Rattle.rules.specs.Promises.{Given}
 
--- a board of version 7, with or without the mark
-abbrev version_seven : Bool → State
-version_seven m = record {
-  contents = record { image = []; held = record { version = 7; unfinished = m; keys = [] } };
-  supply = NoEnd;
-  receiver = idle;
-  session = Closed;
-  dark = false;
+-- the contents of a first packet of version 7, the only one of its update: one byte at 0x4400
+abbrev pub contents_seven : List ℕ
+contents_seven = 7 ∷ 1 ∷ 0 ∷ 1 ∷ 0 ∷ 0 ∷ 0 ∷ 0x00 ∷ 0x44 ∷ 0x00 ∷ 0 ∷ []
+
+-- The packet arrives, sealed under the board's data key. The board holds version 7, any image and any keys, and its power lasts.
+pub record SevenArrives (C : Cipher) (c : Call) : Type 0 where
+  pub held_seven : version c.before ≡ 7
+  pub key_bytes : length (data_key c.before.contents.held) ≡ 16
+  pub endless : c.before.supply ≡ NoEnd
+  pub iv : List ℕ
+  pub iv_bytes : length iv ≡ 16
+  pub well_formed : C.well_formed iv ≡ true
+  pub arrives : Arrives c (0x30 ∷ (iv ++ C.seal (data_key c.before.contents.held) iv contents_seven))
+
+-- without the mark the packet gets 21, and with it it is taken
+pub record ByTheMark (C : Cipher) (s : State) (e : Event) : Type 0 where
+  pub finished : s.contents.held.unfinished ≡ false → (step C s e).answer ≡ refuses (MayNotOpen 1) (message 5)
+  pub unfinished : s.contents.held.unfinished ≡ true → (step C s e).answer ≡ sends (message 0)
+
+-- an image and two keys, held version 7, and a mark
+abbrev pub seven_held : Given → Bool → Contents
+seven_held g m = record {
+  image = g.image;
+  held = record { version = 7; unfinished = m; keys = first_key g.data_key_bytes ∷ first_key g.kek_bytes ∷ [] };
 }
 
--- a first packet of version 7: one byte at 0x4400
-abbrev first_seven : Packet
-first_seven = record { ver = 7; pn = 1; np = 1; address = 0x4400; bytes = 0 ∷ [] }
+-- the packet arrives at a board with these contents
+pub record SevenAt (C : Cipher) (c : Contents) : Type 0 where
+  pub board : State
+  pub event : Event
+  pub holds : board.contents ≡ c
+  pub arrival : SevenArrives C (call C board event)
 
--- the refusal that the packet gets
-abbrev refused_seven : Bool → Option Fault
-refused_seven m = (enact (on_data (judge_fields (version_seven m) first_seven)) (version_seven m)).answer.refusal
-
--- held version 7: a first packet of version 7 gets 21 without the mark, and is taken with it
-abbrev pub SameVersion : Type 0
-SameVersion = (refused_seven false ≡ Some (MayNotOpen 1)) × (refused_seven true ≡ None)
+-- Held version 7: a first packet of version 7 gets 21 without the mark, and is taken with it. It can arrive, whatever the image, the keys and the mark.
+pub record SameVersion : Type 0 where
+  pub by_the_mark : (C : Cipher) → Lawful C → (s : State) (e : Event) → SevenArrives C (call C s e) → ByTheMark C s e
+  pub there_are : (C : Cipher) → Lawful C → (g : Given) (m : Bool) → SevenAt C (seven_held g m)

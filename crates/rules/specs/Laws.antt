@@ -1,31 +1,21 @@
 -- Laws that tie the words of the promises to what a call is given and answers.
-use Rattle.std.specs.Prelude.{◌≡◌, ℕ, ◌<◌, ◌≤◌, Bool, true, false, cond, ◌⊎◌, List, [], ◌∷◌, ◌++◌, length, Some, None, Option, ◌≢◌, nat_lt}
+use Rattle.std.specs.Prelude.{◌≡◌, ℕ, ◌<◌, ◌≤◌, Bool, true, false, cond, ◌⊎◌, List, [], ◌∷◌, ◌++◌, Some, None, Option, ◌≢◌, nat_lt}
 use Rattle.fault.specs.declared.Fault.{Fault}
 use Rattle.fault.specs.declared.Fault.TheVariants.{ReplyShort, WorkShort, Dark, ImageSize, DataCount, OutputShort, OutsideMap, BadLine}
 use Rattle.fault.specs.declared.Fault.TheVariants.{UnknownCommand, PacketLength, BadIv, NotOpened}
 use Rattle.fault.specs.declared.Fault.TheVariants.{BadNumber, MayNotOpen, OutOfTurn, OutsideArea, BadKeyType, OldKey, NoHeader, BadChecksum, NoLength, TooLong}
 use Rattle.memory.specs.declared.supply.Supply.TheVariants.{Steps}
+use Rattle.memory.specs.declared.held.Held.{Held}
 use Rattle.memory.specs.Areas.{place}
 use Rattle.cipher.specs.Cipher.{Cipher, Lawful}
 use Rattle.rules.specs.declared.Event.{Event}
 use Rattle.rules.specs.declared.Event.TheVariants.{Byte, Silence, Question, PowerUp}
-use Rattle.rules.specs.Memory.{data_key, kek}
+use Rattle.rules.specs.Memory.{key_record, data_key, kek}
 use Rattle.rules.specs.Packets.{iv_of, body_of}
-use Rattle.rules.specs.Board.{State, Call, Packet, fields, refuses, step, history}
-use Rattle.rules.specs.Words.{Each, Arrives, Passes, Delivery, Packets}
+use Rattle.rules.specs.Board.{State, Call, Packet, KeyPacket, key_fields, refuses, step, history, run}
+use Rattle.rules.specs.Words.{Each, Arrives, Begins, Taken, Passes, Delivery, Packets, SealedAs}
 use Rattle.rules.specs.Promises.{Given, start}
 use Rattle.rules.specs.Arrival.{InByte, GivesByte}
-
--- A core command is the data packet that a key, an IV and contents give, and the contents have the fields p.
-pub record SealedAs (C : Cipher) (key core : List ℕ) (p : Packet) : Type 0 where
-  pub iv : List ℕ
-  pub contents : List ℕ
-  pub iv_bytes : length iv ≡ 16
-  pub well_formed : C.well_formed iv ≡ true
-  pub at_least : 11 ≤ length contents
-  pub at_most : length contents ≤ 266
-  pub core_is : core ≡ 0x30 ∷ (iv ++ C.seal key iv contents)
-  pub holds : fields contents ≡ p
 
 -- a call that refuses nothing, or goes dark
 abbrev pub Unrefused : Call → Type 0
@@ -77,6 +67,31 @@ DarkWhenSpent =
     → s.dark ≡ false
     → ((step C s e).state.supply ≡ Steps 0) × ((step C s e).state.dark ≡ true)
 
+-- the key record at a place is the one that a key packet brings, and every other stands as it did
+pub record Replaced (i : ℕ) (p : KeyPacket) (h k : Held) : Type 0 where
+  pub there : key_record k i ≡ record { key = p.key; version = p.kv }
+  pub elsewhere : (j : ℕ) → (j ≢ i) → key_record k j ≡ key_record h j
+
+-- type 0 replaces the data key, type 2 the key-encryption key
+abbrev pub ReplacedByType : KeyPacket → Held → Held → Type 0
+ReplacedByType p h k = ((p.kt ≡ 0) × Replaced 0 p h k) ⊎ ((p.kt ≡ 2) × Replaced 1 p h k)
+
+-- a key packet's contents under the held key-encryption key, and the key that they replace
+pub record KeyTaken (C : Cipher) (c : Call) (core : List ℕ) : Type 0 where
+  pub contents : List ℕ
+  pub opens : C.opened (kek c.before.contents.held) (iv_of core) (body_of core) ≡ Some contents
+  pub replaced : ReplacedByType (key_fields contents) c.before.contents.held c.after.contents.held
+
+-- A key packet that is taken is of type 0 and replaces the data key, or of type 2 and replaces the key-encryption key; the other key stays.
+abbrev pub KeyTypesNameKeys : Type 0
+KeyTypesNameKeys =
+    (C : Cipher) → Lawful C → (g : Given) (events : List Event) (x z : List Call) (c : Call) (core : List ℕ)
+    → history C (start g) events ≡ x ++ c ∷ z
+    → Arrives c core
+    → Begins 0x31 core
+    → Taken c
+    → KeyTaken C c core
+
 -- a packet that arrives opens to bytes, where it opens under a held key
 abbrev pub OpensToBytes : Cipher → Call → Type 0
 OpensToBytes C c =
@@ -126,6 +141,24 @@ EachCallHasItsRefusals =
     → history C (start g) events ≡ x ++ c ∷ z
     → c.answer.refusal ≡ Some f
     → RefusalOf (OpensToBytes C c) c.event f
+
+-- the board behind calls that began with a board
+abbrev pub board_behind : State → List Call → State
+board_behind s [] = s
+board_behind s (c ∷ cs) = board_behind c.after cs
+
+-- a list of events, and another behind it
+pub record Joined (C : Cipher) (s : State) (first second : List Event) : Type 0 where
+  -- the history is that of the first, and then that of the second from the board that the first left
+  pub histories : history C s (first ++ second) ≡ history C s first ++ history C (run C s first) second
+  -- that board is the one behind the last call of the first
+  pub left : run C s first ≡ board_behind s (history C s first)
+  -- the board behind both is the one that the second left
+  pub boards : run C s (first ++ second) ≡ run C (run C s first) second
+
+-- A long run may be made in pieces.
+abbrev pub HistoriesJoin : Type 0
+HistoriesJoin = (C : Cipher) (s : State) (first second : List Event) → Joined C s first second
 
 -- The packets of an update are one list, behind whichever call of a history it opened at.
 abbrev pub PacketsAreOneList : Type 0

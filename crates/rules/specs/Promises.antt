@@ -29,8 +29,13 @@ first_packet u = record { at = u.at; packet = u.packet }
 
 -- An update among the calls before a boot question r, behind which come the calls rest: ds are its packets behind the first.
 pub record Complete (C : Cipher) {mid : List Call} (u : Latest C mid) (r : Call) (rest : List Call) (ds : List Delivery) : Type 0 where
+  -- at the question they are all there, and the update is whole
+  pub all_there : Packets C u.behind ds
+  pub whole_there : Whole C (first_packet u) u.behind ds
+  -- neither the question nor a call behind it brings one more, or takes that away
   pub packets : Packets C (u.behind ++ r ∷ rest) ds
   pub whole : Whole C (first_packet u) (u.behind ++ r ∷ rest) ds
+  -- the memory bytes at the question are what stood before the update with its data laid over
   pub laid : memory r.before ≡ laid_over (first_packet u ∷ ds) (memory u.at.before)
 
 -- Between two boot questions q and r, both answered 'application', came the calls mid; behind r come the calls rest.

@@ -1,13 +1,13 @@
 -- The words in which the promises speak of a history.
-use Rattle.std.specs.Prelude.{◌≡◌, ℕ, suc, true, List, [], ◌∷◌, ◌++◌, length, Some, None, Ok, ◌≢◌}
+use Rattle.std.specs.Prelude.{◌≡◌, ℕ, suc, ◌≤◌, true, List, [], ◌∷◌, ◌++◌, length, Some, None, Ok, ◌≢◌}
 use Rattle.fault.specs.declared.Fault.{Fault}
 use Rattle.memory.specs.declared.supply.Supply.{Supply}
 use Rattle.memory.specs.declared.supply.Supply.TheVariants.{Steps}
 use Rattle.rules.specs.declared.Event.TheVariants.{Question, PowerUp}
-use Rattle.rules.specs.declared.Boot.TheVariants.{Application}
+use Rattle.rules.specs.declared.Boot.{Boot}
 use Rattle.rules.specs.Memory.{data_key, lay}
 use Rattle.cipher.specs.Cipher.{Cipher}
-use Rattle.rules.specs.Board.{State, Call, Packet, judge_data, heard, framed, fields}
+use Rattle.rules.specs.Board.{State, Call, Packet, boot_number, judge_data, heard, framed, fields}
 
 -- one of the elements has a property
 pub data Any {A : Type 0} (P : A → Type 0) : List A → Type 0 where
@@ -27,10 +27,12 @@ version s = s.contents.held.version
 abbrev pub memory : State → List ℕ
 memory s = s.contents.image
 
--- a boot question, answered 'application'
+-- a boot question, answered 1: 'application'
 pub record Boots (q : Call) : Type 0 where
   pub asks : q.event ≡ Question
-  pub answers : q.answer.said ≡ Some Application
+  pub said : Boot
+  pub answers : q.answer.said ≡ Some said
+  pub application : boot_number said ≡ 1
 
 -- a good frame's core command arrives at the call that reads the frame's last byte
 abbrev pub Arrives : Call → List ℕ → Type 0
@@ -121,14 +123,22 @@ abbrev pub Numbered : ℕ → ℕ → ℕ → List Delivery → Type 0
 Numbered n ver np [] = n ≡ suc np
 Numbered n ver np (d ∷ ds) = (d.packet.pn ≡ n) × (d.packet.ver ≡ ver) × (d.packet.np ≡ np) × Numbered (suc n) ver np ds
 
--- the body is what sealing gives for the IV and the contents under the data key held as it arrived
-pub record Sealed (C : Cipher) (d : Delivery) : Type 0 where
+-- A core command is the data packet that a key, an IV and contents give, and the contents have the fields p.
+pub record SealedAs (C : Cipher) (key core : List ℕ) (p : Packet) : Type 0 where
   pub iv : List ℕ
   pub contents : List ℕ
   pub iv_bytes : length iv ≡ 16
   pub well_formed : C.well_formed iv ≡ true
-  pub arrives : Arrives d.at (0x30 ∷ (iv ++ C.seal (data_key d.at.before.contents.held) iv contents))
-  pub holds : fields contents ≡ d.packet
+  pub at_least : 11 ≤ length contents
+  pub at_most : length contents ≤ 266
+  pub core_is : core ≡ 0x30 ∷ (iv ++ C.seal key iv contents)
+  pub holds : fields contents ≡ p
+
+-- the body is what sealing gives for the IV and the contents under the data key held as it arrived
+pub record Sealed (C : Cipher) (d : Delivery) : Type 0 where
+  pub core : List ℕ
+  pub arrives : Arrives d.at core
+  pub sealed_as : SealedAs C (data_key d.at.before.contents.held) core d.packet
 
 -- memory bytes with the data of packets laid over, packet by packet
 abbrev pub laid_over : List Delivery → List ℕ → List ℕ

@@ -6,7 +6,7 @@ ghost use Rattle.rules.specs.Arrival.{FramesArrive};
 ghost use Rattle.rules.specs.Board.{boot_number, boot_text};
 ghost use Rattle.rules.specs.Examples.{SameVersion};
 ghost use Rattle.rules.specs.Instances.{RunsExist};
-ghost use Rattle.rules.specs.Laws.{DarkWhenSpent, EachCallHasItsRefusals, PacketsAreOneList, PassingShows, RefusalsChangeNothing, TurnedAwayUnchanged};
+ghost use Rattle.rules.specs.Laws.{DarkWhenSpent, EachCallHasItsRefusals, HistoriesJoin, KeyTypesNameKeys, PacketsAreOneList, PassingShows, RefusalsChangeNothing, TurnedAwayUnchanged};
 ghost use Rattle.rules.specs.Memory.{DataIsLaid};
 ghost use Rattle.rules.specs.Promises.{AnswersTellNothing, NoPacketIsTakenTwice, UpdatesAreWhole};
 
@@ -115,6 +115,16 @@ pub fn refusals_change_nothing()
 pub fn each_call_has_its_refusals()
     ensures bounded { EachCallHasItsRefusals }
     ensures spent { DarkWhenSpent }
+{}
+
+// A key packet of type 0 replaces the data key, one of type 2 the key-encryption key, and no other is taken.
+pub fn key_types_name_keys()
+    ensures { KeyTypesNameKeys }
+{}
+
+// A long run may be made in pieces: the history of calls behind others is theirs, and then that of the calls from the board that they left.
+pub fn histories_join()
+    ensures { HistoriesJoin }
 {}
 
 // The packets of an update are one list.

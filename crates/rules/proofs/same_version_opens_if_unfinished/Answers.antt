@@ -1,5 +1,5 @@
-use Rattle.rules.proofs.Examples
+use Rattle.rules.proofs.SameVersion
 use Rattle.rules.proofs.same_version_opens_if_unfinished.Goals as goal
 
 pub returns : goal.returns
-returns c = Examples.same_version
+returns c = SameVersion.same_version
