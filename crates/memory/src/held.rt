@@ -71,13 +71,14 @@ impl Held {
         }
     }
 
-    // Replaces one key record; the other and the rest stay.
+    // Replaces one key record, which is lent; the other and the rest stay.
     pub fn put_key(&mut self, slot: KeySlot, record: KeyRecord)
         ensures after { self.new ≡ held_key slot «record» self.old }
         ensures other { (k : ℕ) (d : KeyRecord) → (k ≢ slot_place slot) → slice_index_or self.new.keys k d ≡ slice_index_or self.old.keys k d }
         ensures version { self.new.version ≡ self.old.version }
         ensures mark { self.new.unfinished ≡ self.old.unfinished }
     {
-        self.keys[slot.place()] = record;
+        let lent = &mut self.keys[slot.place()];
+        *lent = record;
     }
 }
