@@ -77,9 +77,10 @@ fn main(rt: HostRuntime) -> anyhow::Result<()> {
     for number in 1..=COUNT {
         frames.push(pack_part(&KEY, 1, number)?)?;
     }
-    let count = frames
-        .iter()
-        .fold(0usize, |sum, frame| sum.saturating_add(frame.as_slice().len()));
+    let count = frames.iter().fold(
+        0usize,
+        |sum, frame| sum.saturating_add(frame.as_slice().len()),
+    );
     println!(rt; "Version 1 of an update is packed: {COUNT} packets, {count} bytes of frames.")?;
     let mut image = vec![in rt.alloc(); 0xFFu8; 61056]?;
     let memory = LentImage::over(&mut image, Held::fresh(KEY, KEK), Supply::NoEnd)?;
