@@ -20,6 +20,7 @@ use Rattle.rules.specs.Board
 use Rattle.rules.specs.Board.{run, State, Call, Packet, call, history, step, fresh, may_open, judge_fields}
 use Rattle.rules.specs.Words.{Each, version, Boots, Arrives, Opens, here}
 use Rattle.rules.specs.Promises.{Given, start, Endlessly}
+use Rattle.rules.specs.Examples.{refused_seven}
 use Rattle.rules.specs.Instances.{ResumedUpdate, Replay, Parting, RunsExist}
 use Rattle.rules.proofs.Runs.{run_append, history_append}
 use Rattle.rules.proofs.OneList.{packets_exist}
@@ -124,6 +125,11 @@ storing = tt
 every_rule : Unit {0}
 unfolding receiving judging storing run fresh step Board.decide Board.respond Board.obey Board.on_data Board.enact
 every_rule = tt
+
+-- held version 7, of the fields alone
+pub seven_by_the_fields : (refused_seven false ≡ Some (MayNotOpen 1)) × (refused_seven true ≡ None)
+unfolding judging storing Board.on_data Board.enact
+seven_by_the_fields = (refl, refl)
 
 -- the packet arrives at a board that has read all but its last byte
 abbrev arrival : State → Call

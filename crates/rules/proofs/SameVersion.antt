@@ -20,6 +20,7 @@ use Rattle.rules.specs.Receiver.Read.{good}
 use Rattle.rules.specs.Board.{State, Packet, Deed, Answer, sends, refuses, call, step, enact, on_data, on_opened, judge_data, judge_fields, may_open, fields, word, heard, heard_read}
 use Rattle.rules.specs.Words.{version}
 use Rattle.rules.specs.Promises.{Given}
+use Rattle.rules.proofs.Examples.{seven_by_the_fields}
 use Rattle.rules.specs.Examples.{contents_seven, SevenArrives, ByTheMark, seven_held, SevenAt, SameVersion}
 use Rattle.rules.proofs.Deeds.{data_decides}
 use Rattle.rules.proofs.Twins.{carried}
@@ -123,4 +124,4 @@ module _ (C : Cipher) (L : Lawful C) (g : Given) (m : Bool) where
   }
 
 pub same_version : SameVersion
-same_version = record { by_the_mark = by_the_mark; there_are = seven_at }
+same_version = record { by_the_mark = by_the_mark; by_the_fields = seven_by_the_fields; there_are = seven_at }

@@ -1,14 +1,17 @@
 -- A worked example: the version that may open.
-use Rattle.std.specs.Prelude.{◌≡◌, ℕ, Bool, true, false, List, [], ◌∷◌, ◌++◌, length}
+use Rattle.std.specs.Prelude.{◌≡◌, ℕ, Bool, true, false, List, [], ◌∷◌, ◌++◌, length, Some, None, Option}
+use Rattle.fault.specs.declared.Fault.{Fault}
 use Rattle.fault.specs.declared.Fault.TheVariants.{MayNotOpen}
 use Rattle.memory.specs.declared.supply.Supply.TheVariants.{NoEnd}
 use Rattle.memory.specs.Held.{first_key}
 use Rattle.memory.specs.Meaning.{Contents}
 use Rattle.cipher.specs.Cipher.{Cipher, Lawful}
 use Rattle.rules.specs.declared.Event.{Event}
+use Rattle.rules.specs.declared.Session.TheVariants.{Closed}
 use Rattle.rules.specs.Memory.{data_key}
+use Rattle.rules.specs.Receiver.Receiver.{idle}
 use Rattle.rules.specs.Commands.{message}
-use Rattle.rules.specs.Board.{State, Call, call, step, refuses, sends}
+use Rattle.rules.specs.Board.{State, Call, Packet, call, enact, judge_fields, on_data, refuses, sends, step}
 use Rattle.rules.specs.Words.{version, Arrives}
 use Rattle.rules.specs.Promises.{Given}
 
@@ -45,7 +48,26 @@ pub record SevenAt (C : Cipher) (c : Contents) : Type 0 where
   pub holds : board.contents ≡ c
   pub arrival : SevenArrives C (call C board event)
 
+-- The same of the fields alone, by computation: a board of version 7 with nothing in it, with or without the mark,
+abbrev pub version_seven : Bool → State
+version_seven m = record {
+  contents = record { image = []; held = record { version = 7; unfinished = m; keys = [] } };
+  supply = NoEnd;
+  receiver = idle;
+  session = Closed;
+  dark = false;
+}
+
+-- the packet's fields,
+abbrev pub first_seven : Packet
+first_seven = record { ver = 7; pn = 1; np = 1; address = 0x4400; bytes = 0 ∷ [] }
+
+-- and the refusal that they get.
+abbrev pub refused_seven : Bool → Option Fault
+refused_seven m = (enact (on_data (judge_fields (version_seven m) first_seven)) (version_seven m)).answer.refusal
+
 -- Held version 7: a first packet of version 7 gets 21 without the mark, and is taken with it. It can arrive, whatever the image, the keys and the mark.
 pub record SameVersion : Type 0 where
   pub by_the_mark : (C : Cipher) → Lawful C → (s : State) (e : Event) → SevenArrives C (call C s e) → ByTheMark C s e
+  pub by_the_fields : (refused_seven false ≡ Some (MayNotOpen 1)) × (refused_seven true ≡ None)
   pub there_are : (C : Cipher) → Lawful C → (g : Given) (m : Bool) → SevenAt C (seven_held g m)
