@@ -28,7 +28,7 @@ fn expanded(key: &[u8; 16]) -> [Columns; 11]
 {
     let mut k = Columns::from(key);
     let mut keys = [k; 11];
-    // By index: of what a zip with `keys.iter_mut()` wrote, nothing could be proved.
+    // By index: tried with `iter_mut`, zipped, where a loop's invariant can't name what was written.
     for (i, constant) in RCON.iter().enumerate() {
         k = next_round_key(k, *constant);
         keys[i + 1] = k;

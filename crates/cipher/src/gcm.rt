@@ -34,7 +34,8 @@ fn mac_of<B: BlockCipher>(session: &Session<B>, covered: &[u8]) -> [u8; 16]
     x
 }
 
-// Adds the key stream that follows the IV, a counter block, to `data`.
+// Adds the key stream that follows the IV, a counter block, to `data`. Not one function with that of CCM: each says which of the two
+// standards' key streams a counter makes, and under which conditions.
 fn add_key_stream<B: BlockCipher>(session: &Session<B>, data: &mut [u8])
     requires formed { has_fixed gcm_fixed session.now.iv ≡ true }
     requires short { length «data».old ≤ 282 }

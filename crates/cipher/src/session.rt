@@ -90,7 +90,7 @@ impl<B: BlockCipher> Session<B> {
         ensures { «data».new ≡ xor_from (stream (λ n. B.block self.now.key (counter self.now.iv n)) first) 0 «data».old }
     {
         let size = data.len();
-        // By index: of what was written through `chunks_mut`, nothing could be proved.
+        // By index: tried with `chunks_mut`, where a loop's invariant can't name what was written.
         for i in 0..size.div_ceil(16) {
             let from = 16 * i;
             let to = size.min(from + 16);

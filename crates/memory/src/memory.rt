@@ -16,6 +16,7 @@ pub trait Memory {
     // Each memory owes that its image is as long as the map.
     ghost long: { (m : Self) → length (meaning m).contents.image ≡ map_size };
 
+    // None of these three changes the meaning: a plain fact of each, and no plainer under a name.
     fn read(&mut self, address: u32) -> Result<u8, Fault>
         ensures same { meaning self.new ≡ meaning self.old }
         ensures value { result ≡ read_of (meaning self.old).contents address };
@@ -36,7 +37,7 @@ pub trait Memory {
     fn set_vector(&mut self, low: u8, high: u8) -> Result<(), Fault>
         ensures { Makes (set_vector low high) (meaning self.old) (meaning self.new) result };
 
-    // version and mark together,
+    // version and mark together, as two parameters, since a version stands without a mark everywhere but in the held record,
     fn set_version(&mut self, number: u8, unfinished: bool) -> Result<(), Fault>
         ensures { Makes (set_version number unfinished) (meaning self.old) (meaning self.new) result };
 

@@ -56,6 +56,7 @@ pub struct KeyArguments {
     pub mode: Mode,
     pub kek: [u8; 16],
     pub iv: [u8; 16],
+    // Any number, as in a packet.
     pub kind: u8,
     pub version: u8,
     pub key: [u8; 16],
@@ -84,7 +85,7 @@ pub fn data_arguments(
     })
 }
 
-// The arguments of a key packet.
+// The arguments of a key packet. No one function with that of data packets: what is wanted, and what is named, differs at each place.
 pub fn key_arguments(
     cipher: &str,
     kek: &str,

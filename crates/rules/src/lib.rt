@@ -46,7 +46,8 @@ impl fmt::Display for Boot {
     }
 }
 
-// No update is under way, or one that expects a packet number, of so many packets.
+// No update is under way, or one that expects a packet number, of so many packets. No Option of the two: 'closed' is what the rules
+// and the checks of a packet's turn say.
 #[derive(Clone, Copy, PartialEq, Eq, Debug)]
 pub enum Session {
     Closed,

@@ -15,7 +15,8 @@ fn fits(n: usize, m: usize) -> bool
 }
 
 // Puts the frame around the core command of `n` bytes that stands in `out` from place 3 on, and says how long the
-// frame is; does nothing where such a core command has no frame, or `out` no room for it.
+// frame is; does nothing where such a core command has no frame, or `out` no room for it. The count stands beside the
+// buffer, since the core command lies in the midst of it, where it was sealed in place.
 pub fn enclose(out: &mut [u8], n: usize) -> Option<usize>
     ensures count { result ≡ frame_size n (length out.old) }
     ensures out { out.new ≡ framed n (take n (drop 3 out.old)) out.old }

@@ -49,6 +49,7 @@ impl<'a> LentImage<'a> {
     }
 }
 
+// Its storing steps are no one function: each changes another part, and spends by a line of its own.
 impl Memory for LentImage<'_> {
     ghost meaning = { lent_meaning };
 
