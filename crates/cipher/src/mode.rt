@@ -9,7 +9,8 @@ use crate::block::BlockCipher;
 use crate::session::Session;
 use fault::Fault;
 
-// A key stream and a tag, over a block cipher.
+// A key stream and a tag, over a block cipher. That an IV is well formed stays a premise: in a type of its own it would ask of the
+// callers of a packet cipher that they make one.
 pub(crate) trait Mode<B: BlockCipher> {
     // The bytes that an IV must have.
     ghost fixed: { Fixed };
