@@ -1,0 +1,4 @@
+-- What a sweep counts, shows and compares.
+pub mod Bars
+pub mod Programs
+pub mod Tallies
