@@ -1,0 +1,4 @@
+-- What cases say and give.
+pub mod Answers
+pub mod Words
+pub mod Texts
