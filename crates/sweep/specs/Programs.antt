@@ -1,5 +1,5 @@
 -- Programs at their places.
-use Rattle.std.specs.Prelude.{ℕ, ◌-◌, cond, is_ok, List, [], ◌∷◌, ◌++◌, take, drop, replicate, Result}
+use Rattle.std.specs.Prelude.{◌≡◌, ℕ, ◌-◌, ◌⊎◌, cond, is_ok, List, [], ◌∷◌, ◌++◌, take, drop, replicate, Result}
 use Rattle.fault.specs.declared.Fault.{Fault}
 use Rattle.fault.specs.Checks.{then}
 use Rattle.memory.specs.Meaning.{Meaning}
@@ -12,6 +12,10 @@ part_over a b from to = take a to ++ (take (b - a) (drop a from) ++ drop (b - a)
 -- the program of one image laid over another
 abbrev pub with_program : List ℕ → List ℕ → List ℕ
 with_program from to = part_over 44670 44672 from (part_over 512 1024 from to)
+
+-- An image has the old program's image as a whole, or the new program, over what stood there before.
+abbrev pub WholeProgram : List ℕ → List ℕ → List ℕ → List ℕ → Type 0
+WholeProgram old new stood image = (image ≡ old) ⊎ (image ≡ with_program new stood)
 
 -- what storing the program of a version answers: 512 bytes of its number, and the reset vector
 abbrev pub program_answer : ℕ → Meaning → Result (Unit {0}) Fault

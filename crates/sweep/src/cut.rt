@@ -1,9 +1,12 @@
 // One cut: the power goes while something is sent, comes back, and something is sent again; and what the board says to boot questions.
-ghost use Rattle.std.specs.Prelude.{◌≡◌};
+ghost use Rattle.std.specs.Prelude.{◌≡◌, IfOk};
+ghost use Rattle.rules.specs.Board.{run};
+ghost use Rattle.board.specs.State.{state_of};
+ghost use Rattle.sweep.specs.Cuts.{cut_at, power_back, said_at};
 
 use crate::borrowed::Borrowed;
 use board::Board;
-use cipher::{Aes128, BlockCipher, Ccm};
+use cipher::{Aes128, BlockCipher, Ccm, PacketCipher};
 use fault::Fault;
 use memory::{Held, Memory, Supply};
 use rules::{Boot, Event};
@@ -23,18 +26,33 @@ fn board_over<M: Memory>(memory: &mut M) -> Board<Borrowed<'_, M>, Ccm<Aes128>> 
 }
 
 // Makes calls with power for so many steps, and asks; then the power comes back, and it asks once more.
-fn ask_twice<M: Memory>(
+fn ask_twice<M: Memory, C: PacketCipher>(
     heap: Global,
-    board: &mut Board<M, Ccm<Aes128>>,
+    board: &mut Board<M, C>,
     calls: &[Event],
     steps: u32,
-) -> Result<(Option<Boot>, Option<Boot>), AllocError> {
+) -> Result<(Option<Boot>, Option<Boot>), AllocError>
+    ensures gone { IfOk result (λ said. said.0 ≡ said_at C.cipher (cut_at C.cipher steps calls.now (state_of M.meaning board.old))) }
+    ensures back { IfOk result (λ said. said.1 ≡ said_at C.cipher (power_back C.cipher (cut_at C.cipher steps calls.now (state_of M.meaning board.old)))) }
+{
     board.power_up(Supply::Steps(steps));
     board.run(heap, calls)?;
     let gone = board.boot().ok();
     board.power_up(Supply::NoEnd);
     let back = board.boot().ok();
     Ok((gone, back))
+}
+
+// Makes calls, and asks.
+fn ask_after<M: Memory, C: PacketCipher>(
+    heap: Global,
+    board: &mut Board<M, C>,
+    calls: &[Event],
+) -> Result<Option<Boot>, AllocError>
+    ensures { IfOk result (λ said. said ≡ said_at C.cipher (run C.cipher (state_of M.meaning board.old) calls.now)) }
+{
+    board.run(heap, calls)?;
+    Ok(board.boot().ok())
 }
 
 // Cuts the power of a board over a memory behind so many steps of what is sent.
@@ -59,9 +77,7 @@ pub fn again<M: Memory>(
     memory: &mut M,
     calls: &[Event],
 ) -> Result<Option<Boot>, AllocError> {
-    let mut board = board_over(memory);
-    board.run(heap, calls)?;
-    Ok(board.boot().ok())
+    ask_after(heap, &mut board_over(memory), calls)
 }
 
 // How many storing steps the calls take, with a supply that is larger.

@@ -1,5 +1,7 @@
 // A sweep: the power of a board is cut at one storing step after the other.
-ghost use Rattle.std.specs.Prelude.{◌≡◌, length};
+ghost use Rattle.std.specs.Prelude.{◌≡◌, ◌⊎◌, true, false, length, Some};
+ghost use Rattle.rules.specs.declared.Boot.TheVariants.{Application};
+ghost use Rattle.sweep.specs.Programs.{WholeProgram};
 
 use crate::kind::Kind;
 use crate::plans::Plan;
@@ -25,26 +27,33 @@ pub struct Report {
 pub struct Images {
     pub kind: Kind,
     pub held: Held,
-    old: Vec<u8>,
-    new: Vec<u8>,
+    earlier: Vec<u8>,
+    later: Vec<u8>,
     image: Vec<u8>,
     stood: Vec<u8>,
-    ghost long: { (length old.items ≡ 61056) × (length new.items ≡ 61056) × (length image.items ≡ 61056) × (length stood.items ≡ 61056) },
+    ghost long: { (length earlier.items ≡ 61056) × (length later.items ≡ 61056) × (length image.items ≡ 61056) × (length stood.items ≡ 61056) },
+}
+
+// Whether an image is one of two.
+fn is_either(image: &[u8], first: &[u8], second: &[u8]) -> bool
+    ensures { result ≡ true → (image.now ≡ first.now) ⊎ (image.now ≡ second.now) }
+{
+    image == first || image == second
 }
 
 impl Images {
     pub fn new(heap: Global, kind: Kind, held: Held) -> anyhow::Result<Images> {
-        let mut old = vec![in heap; 0u8; 61056]?;
-        kind.prepare(&mut old, held, 1)?;
-        let mut new = vec![in heap; 0u8; 61056]?;
-        kind.prepare(&mut new, held, 2)?;
-        let image = old.clone()?;
-        let stood = old.clone()?;
+        let mut earlier = vec![in heap; 0u8; 61056]?;
+        kind.prepare(&mut earlier, held, 1)?;
+        let mut later = vec![in heap; 0u8; 61056]?;
+        kind.prepare(&mut later, held, 2)?;
+        let image = earlier.clone()?;
+        let stood = earlier.clone()?;
         Ok(Images {
             kind,
             held,
-            old,
-            new,
+            earlier,
+            later,
             image,
             stood,
         })
@@ -52,23 +61,21 @@ impl Images {
 
     // How many storing steps the calls of a plan take on the old program.
     pub fn steps_of(&mut self, heap: Global, plan: &Plan) -> anyhow::Result<u32> {
-        self.image.copy_from_slice(&self.old);
+        self.image.copy_from_slice(&self.earlier);
         self.kind
             .steps_of(heap, &mut self.image, self.held, &plan.cut)
     }
 
-    // Whether a board that said this boots a half program: it says that there is an application, and the image is
-    // neither the old program's, nor what stood there before with the new program laid over. Takes the image for what stood there.
-    fn boots_half(&mut self, said: Option<Boot>) -> bool {
-        if !matches!(said, Some(Boot::Application)) {
-            self.stood.copy_from_slice(&self.image);
-            return false;
-        }
-        copy_program(&mut self.stood, &self.new);
-        let whole = self.image.as_slice() == self.old.as_slice()
-            || self.image.as_slice() == self.stood.as_slice();
+    // Whether a board that said this boots a half program: it says that there is an application, and the image is neither the old program's,
+    // nor what stood there before with the new program laid over. What stands there now is what stood there before the next.
+    fn boots_half(&mut self, said: Option<Boot>) -> bool
+        ensures half { result ≡ false → said ≡ Some Application → WholeProgram self.old.earlier.items self.old.later.items self.old.stood.items self.old.image.items }
+        ensures stood { self.new.stood.items ≡ self.old.image.items }
+    {
+        copy_program(&mut self.stood, &self.later);
+        let whole = is_either(&self.image, &self.earlier, &self.stood);
         self.stood.copy_from_slice(&self.image);
-        !whole
+        matches!(said, Some(Boot::Application)) && !whole
     }
 
     // Cuts the power at a step of a plan, and notes what the board says.
@@ -79,8 +86,8 @@ impl Images {
         step: u32,
         report: &mut Report,
     ) -> anyhow::Result<()> {
-        self.image.copy_from_slice(&self.old);
-        self.stood.copy_from_slice(&self.old);
+        self.image.copy_from_slice(&self.earlier);
+        self.stood.copy_from_slice(&self.earlier);
         let kind = self.kind;
         let cut = kind.cut(
             heap,

@@ -1,4 +1,9 @@
 // A case, one line of words, and its answer. None answers where the line is no case.
+ghost use Rattle.std.specs.Prelude.{◌≡◌, IfOk, vec_items};
+ghost use Rattle.std.specs.Option.{option_map};
+ghost use Rattle.vectors.specs.Answers.{opened};
+ghost use Rattle.vectors.specs.Cases.{block_read_answer, bytes_read, cipher_of, data_packed, key_packed, sealed_short};
+
 use crate::answers::{
     Bytes, ROOM_MAX, block_answer, data_answer, key_answer, open_answer, seal_answer,
 };
@@ -12,7 +17,9 @@ use text::hex::{hex_block, hex_bytes};
 pub type Answer = Result<Bytes, Fault>;
 
 // Bytes as pairs of digits run together, or "-" for none.
-fn bytes_of(heap: Global, word: &str) -> Result<Option<Vec<u8>>, AllocError> {
+fn bytes_of(heap: Global, word: &str) -> Result<Option<Vec<u8>>, AllocError>
+    ensures { IfOk result (λ o. option_map vec_items o ≡ bytes_read word.now) }
+{
     match word.as_bytes() {
         b"" => Ok(None),
         b"-" => hex_bytes(heap, b""),
@@ -20,13 +27,17 @@ fn bytes_of(heap: Global, word: &str) -> Result<Option<Vec<u8>>, AllocError> {
     }
 }
 
-fn block_case(key: &str, block: &str) -> Option<Answer> {
+fn block_case(key: &str, block: &str) -> Option<Answer>
+    ensures { result ≡ block_read_answer key.now block.now }
+{
     let key = hex_block(key.as_bytes())?;
     let block = hex_block(block.as_bytes())?;
     Some(Ok(block_answer(&key, &block)))
 }
 
-fn seal_with(with: &Sealing, contents: &[u8]) -> Option<Answer> {
+fn seal_with(with: &Sealing, contents: &[u8]) -> Option<Answer>
+    ensures { result ≡ sealed_short (cipher_of with.now.mode) with.now.key with.now.iv contents.now }
+{
     if contents.len() > 266 {
         return None;
     }
@@ -36,14 +47,18 @@ fn seal_with(with: &Sealing, contents: &[u8]) -> Option<Answer> {
     })
 }
 
-fn open_with(with: &Sealing, body: &[u8]) -> Answer {
+fn open_with(with: &Sealing, body: &[u8]) -> Answer
+    ensures { result ≡ opened (cipher_of with.now.mode) with.now.key with.now.iv body.now }
+{
     match with.mode {
         Mode::Ccm => open_answer::<Ccm<Aes128>>(&with.key, &with.iv, body),
         Mode::Gcm => open_answer::<Gcm<Aes128>>(&with.key, &with.iv, body),
     }
 }
 
-fn data_with(with: &Sealing, packet: &DataPacket<'_>, room: usize) -> Option<Answer> {
+fn data_with(with: &Sealing, packet: &DataPacket<'_>, room: usize) -> Option<Answer>
+    ensures { result ≡ data_packed (cipher_of with.now.mode) with.now.key with.now.iv packet.now room }
+{
     if room > ROOM_MAX {
         return None;
     }
@@ -53,7 +68,9 @@ fn data_with(with: &Sealing, packet: &DataPacket<'_>, room: usize) -> Option<Ans
     })
 }
 
-fn key_with(with: &Sealing, packet: &KeyPacket, room: usize) -> Option<Answer> {
+fn key_with(with: &Sealing, packet: &KeyPacket, room: usize) -> Option<Answer>
+    ensures { result ≡ key_packed (cipher_of with.now.mode) with.now.key with.now.iv packet.now room }
+{
     if room > ROOM_MAX {
         return None;
     }
