@@ -4,10 +4,9 @@
 mod replay;
 mod waiting;
 
-use anyhow::anyhow;
 use board::Board;
 use cipher::{Aes128, BlockCipher, Ccm, PacketCipher};
-use memory::{Held, Memory, Supply, lend, sized};
+use memory::{Held, LentImage, Memory, Supply};
 use std::io::{BufRead, BufReader, Write};
 use waiting::Bench;
 
@@ -51,9 +50,6 @@ fn replay_input<M: Memory + Drop, C: PacketCipher>(
 
 fn main(rt: HostRuntime) -> anyhow::Result<()> {
     let mut image = vec![in rt.alloc(); 0xFFu8; 61056]?;
-    if sized(&image).is_err() {
-        return Err(anyhow!("the image has not the map's size"));
-    }
-    let memory = lend(&mut image, Held::fresh([0; 16], [0; 16]), Supply::NoEnd);
+    let memory = LentImage::over(&mut image, Held::fresh([0; 16], [0; 16]), Supply::NoEnd)?;
     replay_input::<_, Ccm<Aes128>>(&rt, Board::new(memory))
 }

@@ -1,34 +1,40 @@
 -- One byte more of a body.
-use Rattle.std.proofs.Common.{◌≡◌, ℕ, suc, ◌+◌, ◌<◌, ◌≤◌, cond, eqb, List, [], ◌∷◌, ◌++◌, length, take, set, sym, ap, ◌∙◌, arith}
-use Rattle.std.proofs.lemmas.List.{take_more_set, length-take-le}
-use Rattle.std.proofs.lemmas.Bool.{cond-true, cond-false, eq-eqb, ne_eqb}
-use Rattle.rules.specs.Receiver as rules
+use Rattle.std.proofs.Common.{◌≡◌, ℕ, suc, ◌<◌, ◌≤◌, true, cond, eqb, ltb, leb, List, [], ◌∷◌, ◌++◌, length, take, sym, ap, ◌∙◌, arith, length-append}
+use Rattle.std.proofs.lemmas.List.{take_all}
+use Rattle.std.proofs.lemmas.Bool.{and_from, and_parts, cond-true, cond-false, eq-eqb, le-leb, leb-true, lt-ltb, ltb-true, ne_eqb}
 use Rattle.rules.specs.Receiver.{read}
 use Rattle.rules.specs.Receiver.Read.{waits}
 use Rattle.rules.specs.Receiver.Receiver.{body, check_low}
 use Rattle.board.specs.declared.receiver.Progress.{Progress}
 use Rattle.board.specs.declared.receiver.Progress.TheVariants.{Body}
+use Rattle.board.specs.Progress.{sound}
 use Rattle.board.specs.Reading.{receiver_at}
 
-module _ (p : Progress) (xs : List ℕ) (n i b : ℕ) (at : p ≡ Body n i) (h : i < length xs) where
-  pushed : take (i + 1) (set xs i b) ≡ take i xs ++ b ∷ []
-  pushed = take_more_set xs i b h
+module _ (p : Progress) (xs ys : List ℕ) (n b : ℕ) (at : p ≡ Body n) (fits : sound p (length xs) ≡ true) (pushed : ys ≡ take 299 (xs ++ b ∷ [])) where
+  bounds : (length xs < n) × (n ≤ 299)
+  bounds =
+      let h = and_parts (ltb (length xs) n) (leb n 299) (ap (λ q. sound q (length xs)) (sym at) ∙ fits) in
+      (ltb-true _ _ h.0, leb-true _ _ h.1)
 
-  long : suc (length (take i xs)) ≡ i + 1
-  long = let l : i ≤ length xs = omega arith in omega (arith, length-take-le i xs l)
+  grown : ys ≡ xs ++ b ∷ []
+  grown = pushed ∙ take_all 299 (xs ++ b ∷ []) (omega (arith, length-append xs (b ∷ []), bounds))
 
-  abbrev grown : rules.Receiver
-  grown = cond (eqb (suc (length (take i xs))) n) (check_low (take i xs ++ b ∷ [])) (body n (take i xs ++ b ∷ []))
+  long : length ys ≡ suc (length xs)
+  long = ap length grown ∙ length-append xs (b ∷ []) ∙ omega arith
 
-  opened : waits grown ≡ read (receiver_at p xs) b
-  opened = sym (ap (λ q. read (receiver_at q xs) b) at)
+  turned : waits (cond (eqb (suc (length xs)) n) (check_low ys) (body n ys)) ≡ read (receiver_at p xs) b
+  turned = ap (λ zs. waits (cond (eqb (suc (length xs)) n) (check_low zs) (body n zs))) grown ∙ sym (ap (λ q. read (receiver_at q xs) b) at)
 
   -- the last of it
-  pub body_last : i + 1 ≡ n → waits (check_low (take n (set xs i b))) ≡ read (receiver_at p xs) b
-  body_last e =
-      ap (λ k. waits (check_low (take k (set xs i b)))) (sym e) ∙ ap (λ ys. waits (check_low ys)) pushed
-      ∙ ap waits (sym (cond-true _ _ _ (eq-eqb _ _ (long ∙ e)))) ∙ opened
+  pub body_last : length ys ≡ n → waits (check_low ys) ≡ read (receiver_at p xs) b
+  body_last e = ap waits (sym (cond-true _ _ _ (eq-eqb _ _ (sym long ∙ e)))) ∙ turned
 
   -- another
-  pub body_more : (i + 1 ≡ n → ⊥) → waits (body n (take (i + 1) (set xs i b))) ≡ read (receiver_at p xs) b
-  body_more e = ap (λ ys. waits (body n ys)) pushed ∙ ap waits (sym (cond-false _ _ _ (ne_eqb _ _ (λ z. e (sym long ∙ z))))) ∙ opened
+  module _ (e : length ys ≡ n → ⊥) where
+    pub body_more : waits (body n ys) ≡ read (receiver_at p xs) b
+    body_more = ap waits (sym (cond-false _ _ _ (ne_eqb _ _ (λ z. e (long ∙ z))))) ∙ turned
+
+    pub sound_more : sound p (length ys) ≡ true
+    sound_more =
+        ap (λ q. sound q (length ys)) at
+        ∙ and_from (ltb (length ys) n) (leb n 299) (lt-ltb _ _ (omega (arith, e, long, bounds))) (le-leb _ _ bounds.1)

@@ -1,7 +1,10 @@
 -- Which command a core command is, by its length and its first byte.
-use Rattle.std.proofs.Common.{◌≡◌, ℕ, ◌≤◌, List, [], ◌∷◌, length, get_or, sym, refl, ◌∙◌, arith}
+use Rattle.std.proofs.Common.{◌≡◌, ℕ, ◌≤◌, List, [], ◌∷◌, length, get_or, sym, refl, ap, ◌∙◌, arith}
 use Rattle.std.proofs.lemmas.Bool.{cond-false, cond-true, eq-eqb, ne_eqb}
 use Rattle.rules.specs.Commands.{alone, command}
+use Rattle.cipher.specs.Cipher.{Cipher}
+use Rattle.rules.specs.Board.{Outcome, State, enact, obey}
+use Rattle.rules.specs.declared.Command.{Command}
 use Rattle.rules.specs.declared.Command.TheVariants.{Data, Key, Unknown}
 
 pub command_none : (xs : List ℕ) → length xs ≡ 0 → Unknown 0 ≡ command xs
@@ -30,3 +33,8 @@ unfolding command
 command_longer [] h d k = absurd (omega arith)
 command_longer (x ∷ []) h d k = absurd (omega arith)
 command_longer (x ∷ y ∷ xs) h d k = sym (cond-false _ _ _ (ne_eqb x 0x30 d) ∙ cond-false _ _ _ (ne_eqb x 0x31 k))
+
+-- what a core command comes to, from its command
+pub obeys : (C : Cipher) (s : State) (core : List ℕ) (k : Command) → k ≡ command core → (o : Outcome) → o ≡ enact (obey C s core k) s
+    → o ≡ enact (obey C s core (command core)) s
+obeys C s core k e o h = h ∙ ap (λ x. enact (obey C s core x) s) e

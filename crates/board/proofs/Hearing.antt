@@ -15,6 +15,7 @@ use Rattle.rules.specs.declared.Command.TheVariants.{MassErase, Version, Reset, 
 use Rattle.rules.specs.declared.Session.{Session}
 use Rattle.rules.specs.Board.{KeyPacket, Outcome, Packet, State, carry_out, enact, heard_read, judge_data, judge_fields, judge_key, judge_key_fields, obey, on_data, on_key, refuses, respond}
 use Rattle.rules.proofs.Refusing.{read_refused}
+use Rattle.board.specs.declared.reply.Reply.{Reply}
 use Rattle.board.specs.declared.reply.Reply.TheVariants.{Nothing}
 use Rattle.board.specs.Reading.{answer_by, left_by}
 use Rattle.board.specs.Sending.{on_byte, outcome_of}
@@ -35,6 +36,10 @@ read_good (waits h) core e = let z : ◌≡◌ {A = ℕ} 0 1 = cc in absurd (ome
 read_good (bad f) core e = let z : ◌≡◌ {A = ℕ} 0 1 = cc in absurd (omega arith)
 read_good (good c) core e = let q : c ≡ core = cc in ap good q
 
+-- what a byte leaves and answers
+abbrev pub heard_as : Meaning → rules.Receiver → Session → Result Reply Fault → Outcome
+heard_as m h n r = outcome_of (board_with m h n false) r
+
 -- a board that is not dark: its memory, receiver and session
 module _ (C : Cipher) (m : Meaning) (h : rules.Receiver) (n : Session) (d : Bool) (lit : d ≡ false) (b : ℕ) where
   abbrev s : Bool → State
@@ -48,7 +53,7 @@ module _ (C : Cipher) (m : Meaning) (h : rules.Receiver) (n : Session) (d : Bool
   reads r e = ap (λ x. made x false) (sym e) ∙ ap (made (read h b)) (sym lit)
 
   -- a bad frame
-  pub hears_bad : (h' : rules.Receiver) (f : Fault) → h' ≡ left_by (read h b) → read h b ≡ bad f → outcome_of m h' n (Err f) ≡ on_byte C (s d) b
+  pub hears_bad : (h' : rules.Receiver) (f : Fault) → h' ≡ left_by (read h b) → read h b ≡ bad f → heard_as m h' n (Err f) ≡ on_byte C (s d) b
   unfolding respond heard_read enact
   hears_bad h' f k e =
       let q = read_refused h b f e in
@@ -59,9 +64,9 @@ module _ (C : Cipher) (m : Meaning) (h : rules.Receiver) (n : Session) (d : Bool
       ∙ reads (bad f) e
 
   -- a part of a frame
-  pub hears_part : (h' : rules.Receiver) → h' ≡ left_by (read h b) → read h b ≡ waits (left_by (read h b)) → outcome_of m h' n (Ok Nothing) ≡ on_byte C (s d) b
+  pub hears_part : (h' : rules.Receiver) → h' ≡ left_by (read h b) → read h b ≡ waits (left_by (read h b)) → heard_as m h' n (Ok Nothing) ≡ on_byte C (s d) b
   unfolding respond heard_read enact
-  hears_part h' k e = ap (λ y. outcome_of m y n (Ok Nothing)) k ∙ reads (waits (left_by (read h b))) e
+  hears_part h' k e = ap (λ y. heard_as m y n (Ok Nothing)) k ∙ reads (waits (left_by (read h b))) e
 
   -- a packet is judged alike, whatever the receiver
   data_alike : (j : Result Packet Fault) → enact (on_data j) (lit_board m n) ≡ enact (on_data j) (s false)

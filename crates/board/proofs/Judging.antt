@@ -1,91 +1,107 @@
--- From what the code opens and judges to the rules' judging of a data packet.
-use Rattle.std.proofs.Common.{◌≡◌, ℕ, ◌+◌, List, length, take, drop, Some, Ok, Err, Option, Result, sym, refl, ap, ◌∙◌, arith}
-use Rattle.std.proofs.lemmas.List.{drop-take}
-use Rattle.fault.specs.Checks.{then}
+-- From what the code opens and judges to the rules' judging of a packet.
+use Rattle.std.proofs.Common.{◌≡◌, ℕ, false, ◌&&◌, eqb, leb, List, length, Some, None, Ok, Err, Option, Result, sym, ap, ◌∙◌, inl, inr, arith}
+use Rattle.std.proofs.lemmas.Bool.{and_left, and_right, cases_Bool, eqb-false, eqb-true, leb-true, lt-leb}
+use Rattle.fault.specs.Checks.{check, then}
 use Rattle.fault.specs.declared.Fault.{Fault}
+use Rattle.fault.specs.declared.Fault.TheVariants.{PacketLength}
 use Rattle.cipher.specs.Cipher.{Cipher, iv_checked}
 use Rattle.memory.specs.Meaning.{Meaning}
 use Rattle.memory.specs.declared.held.Held.{Held}
 use Rattle.rules.specs.Packets.{iv_of, body_of}
-use Rattle.rules.specs.Memory.{data_key}
+use Rattle.rules.specs.Memory.{data_key, kek}
 use Rattle.rules.specs.declared.Session.{Session}
-use Rattle.rules.specs.Board.{Packet, State, fields, judge_data, judge_fields, on_opened, word}
-use Rattle.rules.proofs.Deeds.{fields_passed}
-use Rattle.board.specs.declared.data.Judged.{Judged}
-use Rattle.board.specs.declared.data.Opened.{Opened}
-use Rattle.board.specs.Judging.{data_sized, judge_by}
-use Rattle.board.specs.Outcomes.{lit_board}
-use Rattle.board.specs.States.{opened_of, packet_in, packet_with, under, unjudged}
-use Rattle.board.proofs.Exits.{open_failed, open_passed}
+use Rattle.rules.specs.Board.{KeyPacket, Packet, State, fields, judge_data, judge_fields, judge_key, judge_key_fields, key_fields, on_opened}
+use Rattle.board.specs.Judging.{judge_by, judge_key_by, sized}
+use Rattle.board.specs.Opening.{opened_by}
+use Rattle.board.specs.Outcomes.{Working, lit, works}
+use Rattle.board.proofs.Exits.{then_failed, then_passed, then_value}
 
--- judging that passed
-pub under_passed : {X Y : Type 0} (x y : Y) (v : Result X Fault) → Ok x ≡ under y v → (q : X) × ((v ≡ Ok q) × (x ≡ y))
-under_passed x y (Ok q) e = (q, (refl, cc))
-under_passed x y (Err f) e = let z : ◌≡◌ {A = ℕ} 0 1 = cc in absurd (omega arith)
+-- opening that failed, and opening that passed, with what follows
+module _ {A : Type 0} (f : List ℕ → A) (j : A → Result A Fault) where
+  failed : (v : Result (Unit {0}) Fault) (o : Option (List ℕ)) (d : Fault) → Err d ≡ then v (on_opened (λ c. Ok (f c)) o) → then v (on_opened (λ c. j (f c)) o) ≡ Err d
+  unfolding on_opened
+  failed (Ok u) None d e = cc
+  failed (Ok u) (Some c) d e = cc
+  failed (Err g) o d e = cc
 
-pub under_failed : {X Y : Type 0} (y : Y) (d : Fault) (v : Result X Fault) → Err d ≡ under y v → v ≡ Err d
-under_failed y d (Ok q) e = let z : ◌≡◌ {A = ℕ} 0 1 = cc in absurd (omega arith)
-under_failed y d (Err f) e = let q : f ≡ d = cc in ap Err q
+  passed : (v : Result (Unit {0}) Fault) (o : Option (List ℕ)) (x : A) → Ok x ≡ then v (on_opened (λ c. Ok (f c)) o) → then v (on_opened (λ c. j (f c)) o) ≡ j x
+  unfolding on_opened
+  passed (Ok u) None x e = cc
+  passed (Ok u) (Some c) x e = let q : f c ≡ x = cc in ap j q
+  passed (Err g) o x e = cc
 
--- the packet that lies in the work buffer
-pub packet_lies : (x : Opened) (work c : List ℕ) → c ≡ take (x.place + x.count) work → x ≡ opened_of (fields c) → packet_in x work ≡ fields c
-unfolding fields word
-packet_lies x work c e h =
-    ap (packet_with x) (sym (drop-take x.place x.count work) ∙ ap (drop x.place) (sym e))
-    ∙ ap (λ o. packet_with o (drop o.place c)) h
+-- a packet of either kind, from its length to the checks of its fields
+module _ {A : Type 0} (C : Cipher) (f : List ℕ → A) (j : A → Result A Fault) (key core : List ℕ) (v : Result (Unit {0}) Fault) where
+  abbrev all_checked : Result A Fault
+  all_checked = then v (then (iv_checked C (iv_of core)) (on_opened (λ c. j (f c)) (C.opened key (iv_of core) (body_of core))))
 
--- judging looks at the session and the held record alone
-by_fields : (s : State) (p : Packet) → judge_fields s p ≡ judge_by s.session s.contents.held p
-unfolding judge_fields
-by_fields s p = refl
+  unsized : (d : Fault) → Err d ≡ then v (Ok core) → all_checked ≡ Err d
+  unsized d e = ap (λ w. then w (then (iv_checked C (iv_of core)) (on_opened (λ c. j (f c)) (C.opened key (iv_of core) (body_of core))))) (then_failed v core d e)
 
--- a core command of the wrong length
-pub data_unsized : (C : Cipher) (m : Meaning) (n : Session) (core : List ℕ) (f : Fault) → data_sized core ≡ Err f → judge_data C (lit_board m n) core ≡ Err f
-unfolding judge_data judge_fields
-data_unsized C m n core f e =
-    ap (λ v. then v (then (iv_checked C (iv_of core)) (on_opened (λ c. judge_by n m.contents.held (fields c)) (C.opened (data_key m.contents.held) (iv_of core) (body_of core))))) e
+  module _ (sealed : List ℕ) (long : Ok sealed ≡ then v (Ok core)) where
+    opens : all_checked ≡ then (iv_checked C (iv_of core)) (on_opened (λ c. j (f c)) (C.opened key (iv_of core) (body_of core)))
+    opens = ap (λ w. then w (then (iv_checked C (iv_of core)) (on_opened (λ c. j (f c)) (C.opened key (iv_of core) (body_of core))))) (then_passed v core sealed long)
 
--- a packet of the right length: held is the record that was read, opened what opening it answers
-module _ (C : Cipher) (m : Meaning) (n : Session) (core : List ℕ) (held : Held) (same : held ≡ m.contents.held) (sized : data_sized core ≡ Ok tt) where
-  abbrev found : Option (List ℕ)
-  found = C.opened (data_key held) (iv_of core) (body_of core)
+    shut : (d : Fault) → Err d ≡ opened_by C f key sealed → all_checked ≡ Err d
+    shut d e = opens ∙ failed f j (iv_checked C (iv_of core)) (C.opened key (iv_of core) (body_of core)) d (e ∙ ap (opened_by C f key) (then_value v core sealed long))
 
-  abbrev answered : Result Opened Fault
-  answered = then (iv_checked C (iv_of core)) (on_opened (λ c. Ok (opened_of (fields c))) found)
+    judges : (x : A) → Ok x ≡ opened_by C f key sealed → all_checked ≡ j x
+    judges x e = opens ∙ passed f j (iv_checked C (iv_of core)) (C.opened key (iv_of core) (body_of core)) x (e ∙ ap (opened_by C f key) (then_value v core sealed long))
 
-  abbrev judging : Held → Result Packet Fault
-  judging h = then (iv_checked C (iv_of core)) (on_opened (λ c. judge_by n h (fields c)) (C.opened (data_key h) (iv_of core) (body_of core)))
+-- the length of a key packet
+just_51 : (n : ℕ) → (leb 51 n && leb n 51) ≡ eqb n 51
+just_51 n =
+    elim (cases_Bool (eqb n 51)) [
+      | inl t ↦ ap (λ k. leb 51 k && leb k 51) (eqb-true n 51 t) ∙ sym t
+      | inr t ↦ below n (eqb-false n 51 t) ∙ sym t
+    ]
+  where
+    below : (n : ℕ) → (n ≡ 51 → ⊥) → (leb 51 n && leb n 51) ≡ false
+    below n h =
+        elim (cases_Bool (leb n 51)) [
+          | inl t ↦ and_left _ _ (lt-leb 51 n (omega (arith, h, leb-true n 51 t)))
+          | inr t ↦ and_right (leb 51 n) _ t
+        ]
 
-  judged_by : judge_data C (lit_board m n) core ≡ judging held
+-- a packet on a board that is not dark: held is the record that was read, and sealed the core command, of a length that the kind has
+module _ (C : Cipher) (w : Working) (m : Meaning) (n : Session) (at : works m n ≡ w) (held : Held) (same : held ≡ m.contents.held) (core : List ℕ) where
+  abbrev s : State
+  s = lit w
+
+  abbrev data_checked : Held → Result Packet Fault
+  data_checked h = all_checked C fields (judge_by n h) (data_key h) core (sized 44 299 core)
+
+  data_is : data_checked held ≡ judge_data C s core
   unfolding judge_data judge_fields
-  judged_by = ap (λ v. then v (judging m.contents.held)) sized ∙ ap judging (sym same)
+  data_is = ap data_checked same ∙ ap (λ x. judge_data C (lit x) core) at
 
-  -- it does not open
-  pub data_shut : (f : Fault) → Err f ≡ answered → judge_data C (lit_board m n) core ≡ Err f
-  data_shut f e = judged_by ∙ open_failed (λ c. opened_of (fields c)) (λ c. judge_by n held (fields c)) (iv_checked C (iv_of core)) found f e
+  pub data_unsized : (d : Fault) → Err d ≡ then (sized 44 299 core) (Ok core) → judge_data C s core ≡ Err d
+  data_unsized d e = sym data_is ∙ unsized C fields (judge_by n held) (data_key held) core (sized 44 299 core) d e
 
-  -- it opens, and its contents lie in the work buffer
-  module _ (x : Opened) (work : List ℕ) (opens : Ok x ≡ answered) (lies : found ≡ Some (take (x.place + x.count) work)) where
-    abbrev contents : List ℕ
-    contents = take (x.place + x.count) work
+  abbrev key_checked : Held → Result KeyPacket Fault
+  key_checked h = all_checked C key_fields (judge_key_by h) (kek h) core (sized 51 51 core)
 
-    both : (x ≡ opened_of (fields contents)) × (judging held ≡ judge_by n held (fields contents))
-    both = open_passed (λ c. opened_of (fields c)) (λ c. judge_by n held (fields c)) (iv_checked C (iv_of core)) found x contents opens lies
+  key_is : key_checked held ≡ judge_key C s core
+  unfolding judge_key judge_key_fields
+  key_is =
+      ap key_checked same
+      ∙ ap (λ b. all_checked C key_fields (judge_key_by m.contents.held) (kek m.contents.held) core (check b (PacketLength (length core)))) (just_51 (length core))
+      ∙ ap (λ x. judge_key C (lit x) core) at
 
-    -- what judging its numbers answers is what the rules' judging answers
-    pub data_judged : (r : Result Judged Fault) → ((bs : List ℕ) → length bs ≡ x.count → unjudged r ≡ under x (judge_by n held (packet_with x bs)))
-        → unjudged r ≡ under x (judge_data C (lit_board m n) core)
-    data_judged r h =
-        let bs = (fields contents).bytes in
-        h bs (sym (ap (λ (o : Opened). o.count) both.0))
-        ∙ ap (λ o. under x (judge_by n held (packet_with o bs))) both.0
-        ∙ ap (under x) (sym (judged_by ∙ both.1))
+  pub key_unsized : (d : Fault) → Err d ≡ then (sized 51 51 core) (Ok core) → judge_key C s core ≡ Err d
+  key_unsized d e = sym key_is ∙ unsized C key_fields (judge_key_by held) (kek held) core (sized 51 51 core) d e
 
-    -- the packet that passed lies in the work buffer
-    pub data_passes : (j : Judged) → Ok j.opened ≡ under x (judge_data C (lit_board m n) core)
-        → (q : Packet) × ((judge_data C (lit_board m n) core ≡ Ok q) × (packet_in j.opened work ≡ q) × (j.opened ≡ x))
-    data_passes j e =
-        let p = under_passed j.opened x (judge_data C (lit_board m n) core) e in
-        let q = p.0 in
-        let fit = fields_passed (lit_board m n) (fields contents) q (by_fields (lit_board m n) (fields contents) ∙ sym (ap (λ h. judge_by n h (fields contents)) same) ∙ sym (judged_by ∙ both.1) ∙ p.1.0) in
-        (q, (p.1.0, ap (λ o. packet_in o work) p.1.1 ∙ packet_lies x work contents refl both.0 ∙ fit.0, p.1.1))
+  module _ (sealed : List ℕ) where
+    pub data_shut : Ok sealed ≡ then (sized 44 299 core) (Ok core) → (d : Fault) → Err d ≡ opened_by C fields (data_key held) sealed → judge_data C s core ≡ Err d
+    data_shut l d e = sym data_is ∙ shut C fields (judge_by n held) (data_key held) core (sized 44 299 core) sealed l d e
+
+    pub data_judged : Ok sealed ≡ then (sized 44 299 core) (Ok core) → (x : Packet) → Ok x ≡ opened_by C fields (data_key held) sealed
+        → (r : Result Packet Fault) → r ≡ judge_by n held x → judge_data C s core ≡ r
+    data_judged l x e r h = sym data_is ∙ judges C fields (judge_by n held) (data_key held) core (sized 44 299 core) sealed l x e ∙ sym h
+
+    pub key_shut : Ok sealed ≡ then (sized 51 51 core) (Ok core) → (d : Fault) → Err d ≡ opened_by C key_fields (kek held) sealed → judge_key C s core ≡ Err d
+    key_shut l d e = sym key_is ∙ shut C key_fields (judge_key_by held) (kek held) core (sized 51 51 core) sealed l d e
+
+    pub key_judged : Ok sealed ≡ then (sized 51 51 core) (Ok core) → (x : KeyPacket) → Ok x ≡ opened_by C key_fields (kek held) sealed
+        → (r : Result KeyPacket Fault) → r ≡ judge_key_by held x → judge_key C s core ≡ r
+    key_judged l x e r h = sym key_is ∙ judges C key_fields (judge_key_by held) (kek held) core (sized 51 51 core) sealed l x e ∙ sym h

@@ -1,12 +1,13 @@
 mod Bodies
+mod Commanding
+mod Stepping
 pub mod Exits
+pub mod KeyJudging
 pub mod Opening
-pub mod Stepping
 pub mod Outcome
 pub mod Judging
-pub mod KeyJudging
-pub mod Commanding
 pub mod Booting
 pub mod Hearing
 pub mod Calling
 pub mod Histories
+pub mod Buffers

@@ -1,8 +1,7 @@
 pub mod Progress
 pub mod Reading
 pub mod Wiped
-pub mod States
-pub mod Keys
+pub mod Opening
 pub mod Judging
 pub mod Outcomes
 pub mod Answers

@@ -34,11 +34,32 @@ abbrev pub went_dark : {X : Type 0} → Result X Fault → Bool
 went_dark (Ok x) = false
 went_dark (Err f) = is_dark f
 
+-- an answer without its value
+abbrev pub done : {X : Type 0} → Result X Fault → Result (Unit {0}) Fault
+done (Ok x) = Ok tt
+done (Err f) = Err f
+
 -- the answer to a packet: taken, or refused
 abbrev pub packet_answer : Result (Unit {0}) Fault → Answer
 packet_answer (Ok u) = sends (message 0)
 packet_answer (Err f) = refuses f (refused_sends f)
 
--- the outcome of a packet, from the memory and the session that it leaves, and its answer
-abbrev pub packet_outcome : Meaning → Session → Result (Unit {0}) Fault → Outcome
-packet_outcome m n r = record { state = board_with m idle n (went_dark r); answer = packet_answer r }
+-- what a board works on while it obeys
+pub record Working : Type 0 where
+  pub memory : Meaning
+  pub session : Session
+
+abbrev pub works : Meaning → Session → Working
+works m n = record { memory = m; session = n }
+
+-- a board that is not dark, with an idle receiver
+abbrev pub lit : Working → State
+lit w = lit_board w.memory w.session
+
+-- what a call leaves of an idle board: an answer of 3 made it dark
+abbrev pub left_dark : {X : Type 0} → Working → Result X Fault → State
+left_dark w r = board_with w.memory idle w.session (went_dark r)
+
+-- the outcome of a packet, from what it leaves, and its answer
+abbrev pub packet_outcome : Working → Result (Unit {0}) Fault → Outcome
+packet_outcome w r = record { state = left_dark w r; answer = packet_answer r }

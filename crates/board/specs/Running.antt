@@ -1,25 +1,18 @@
 -- Runs of calls: answers and board are those of the rules' history, and the promises hold of it.
-use Rattle.std.specs.Prelude.{◌≡◌, ℕ, cond, List, ◌++◌, map, Ok, Err, Result, nat_lt}
+use Rattle.std.specs.Prelude.{◌≡◌, List, ◌++◌, map, Ok, Err, Result}
 use Rattle.cipher.specs.Cipher.{Cipher}
 use Rattle.rules.specs.declared.Event.{Event}
-use Rattle.rules.specs.Board as rules
-use Rattle.rules.specs.Board.{Call, State, history, run}
+use Rattle.rules.specs.Board.{Answer, Call, State, history, run}
 use Rattle.rules.specs.Promises.{Given, KeptPromises, start}
-use Rattle.board.specs.declared.answer.Answer.{Answer}
-use Rattle.board.specs.Answers.{answer_of}
-
--- a number, but no more than another
-abbrev pub capped : ℕ → ℕ → ℕ
-capped n m = cond (nat_lt n m) n m
 
 -- the answers of a history
-abbrev pub answers : List Call → List rules.Answer
+abbrev pub answers : List Call → List Answer
 answers cs = map (λ (c : Call). c.answer) cs
 
 -- What a run over a list of events leaves and answers, or that there was no memory for the answers.
 abbrev pub Answered : {V E : Type 0} → (V → List Answer) → Cipher → State → List Event → State → Result V E → Type 0
 -- the board behind it and its answers are those of the rules' history
-Answered items C before events after (Ok v) = (after ≡ run C before events) × (map answer_of (items v) ≡ answers (history C before events))
+Answered items C before events after (Ok v) = (after ≡ run C before events) × (items v ≡ answers (history C before events))
 -- nothing happened
 Answered items C before events after (Err e) = after ≡ before
 

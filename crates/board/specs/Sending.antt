@@ -1,10 +1,8 @@
 -- What is sent, and what a core command that was obeyed comes to.
 use Rattle.std.specs.Prelude.{ℕ, List, [], ◌∷◌, Ok, Err, Result}
 use Rattle.fault.specs.declared.Fault.{Fault}
-use Rattle.memory.specs.Meaning.{Meaning}
-use Rattle.board.specs.Outcomes.{board_with, refused_sends, went_dark}
-use Rattle.rules.specs.Receiver.{Receiver, read}
-use Rattle.rules.specs.declared.Session.{Session}
+use Rattle.board.specs.Outcomes.{Working, left_dark, refused_sends, went_dark}
+use Rattle.rules.specs.Receiver.{read}
 use Rattle.rules.specs.Commands.{message, version_answer}
 use Rattle.rules.specs.Board.{Answer, Outcome, State, enact, heard_read, refuses, respond, sends}
 use Rattle.cipher.specs.Cipher.{Cipher}
@@ -25,9 +23,16 @@ abbrev pub replied : Result Reply Fault → Answer
 replied (Ok p) = sends (sent_of p)
 replied (Err f) = refuses f (refused_sends f)
 
--- an outcome, from the memory, receiver and session that are left, and the answer
-abbrev pub outcome_of : Meaning → Receiver → Session → Result Reply Fault → Outcome
-outcome_of m h n r = record { state = board_with m h n (went_dark r); answer = replied r }
+-- the outcome of a core command, from what it leaves, and its answer
+abbrev pub obeyed : Working → Result Reply Fault → Outcome
+obeyed w r = record { state = left_dark w r; answer = replied r }
+
+-- an outcome, from the board that is left, which an answer of 3 makes dark, and the answer
+abbrev pub outcome_of : State → Result Reply Fault → Outcome
+outcome_of s r = record {
+  state = record { contents = s.contents; supply = s.supply; receiver = s.receiver; session = s.session; dark = went_dark r };
+  answer = replied r;
+}
 
 -- what the rules make of a byte that is read
 unfoldable pub on_byte : Cipher → State → ℕ → Outcome

@@ -1,17 +1,16 @@
 -- What a board means: a state of the rules.
+use Rattle.std.specs.Prelude.{Bool}
 use Rattle.memory.specs.Held.{fresh_held}
 use Rattle.memory.specs.Meaning.{Meaning}
 use Rattle.memory.specs.declared.supply.Supply.TheVariants.{NoEnd}
-use Rattle.board.specs.Outcomes.{board_with}
+use Rattle.board.specs.Outcomes.{Working, board_with}
+use Rattle.rules.specs.Receiver.{Receiver}
 use Rattle.rules.specs.Board.{State}
 use Rattle.rules.specs.Promises.{Given}
-use Rattle.board.specs.Reading.{receiver_of}
-use Rattle.board.specs.declared.board.Board.{Board}
 
--- the state of a board, by what its memory means
-module _ {M C : Type 0} where
-  abbrev pub state_of : (M → Meaning) → Board M C → State
-  state_of means b = board_with (means b.memory) (receiver_of b.receiver) b.session b.dark
+-- a board of what it works on, a receiver and a power state
+abbrev pub board_of : Working → Receiver → Bool → State
+board_of w h d = board_with w.memory h w.session d
 
 -- the memory of a fresh board
 abbrev pub fresh_memory : Given → Meaning

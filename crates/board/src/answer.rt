@@ -1,8 +1,9 @@
 // What calls answer.
-ghost use Rattle.std.specs.Prelude.{◌≤◌};
-
+use crate::reply::REPLY;
+use buffer::Buffer;
 use fault::Fault;
 use rules::Boot;
+use std::marker::Model;
 
 mod parts;
 
@@ -13,12 +14,20 @@ pub struct ByteAnswer {
     pub sent: usize,
 }
 
-// What any call answers, kept: the refusal, if it refuses, what a boot question says, and the bytes that are sent.
+// What any call answers, kept: the refusal, if it refuses, the bytes that are sent, and what a boot question says.
 #[derive(Clone, Copy)]
 pub struct Answer {
     refusal: Option<Fault>,
+    sent: Buffer<REPLY>,
     boot: Option<Boot>,
-    sent: usize,
-    bytes: [u8; 11],
-    ghost few: { sent ≤ 11 },
+}
+
+impl Model for Answer {
+    ghost use Rattle.rules.specs.Board.{Answer as Given};
+
+    ghost Value = { Given };
+
+    ghost view = { λ a. record { refusal = a.refusal; sent = a.sent; said = a.boot } };
+
+    ghost inverse = { λ a. record { refusal = a.refusal; sent = a.sent; boot = a.said } };
 }

@@ -12,10 +12,7 @@ fn is_blank<M: Memory>(memory: &mut M, address: u32) -> bool
     ensures same { M.meaning memory.new ≡ M.meaning memory.old }
     ensures value { result ≡ reads_blank (read_of (M.meaning memory.old).contents address) }
 {
-    match memory.read(address) {
-        Ok(byte) => byte == 0xFF,
-        Err(_) => false,
-    }
+    matches!(memory.read(address), Ok(0xFF))
 }
 
 pub(crate) fn boot_of<M: Memory>(memory: &mut M) -> Boot

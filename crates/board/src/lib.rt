@@ -1,24 +1,22 @@
 // The receiving core: a board over any memory and any packet cipher, its four calls, and runs of calls. Its parts are the receiver, the
-// guard over the work buffer, the reader over opened contents, and the packet path: a sealed packet is opened, judged and stored, each
-// state used up by the next.
+// guard over the work buffer, and the packet path: a sealed packet is opened, judged and stored, each state used up by the next.
 #![tactic(auto)]
 
 mod answer;
 mod board;
 mod boot;
 mod calls;
-mod contents;
+mod core_command;
 mod data;
-mod erase;
+mod device;
 mod key;
-mod obey;
-mod open;
 mod receiver;
 mod reply;
 mod run;
-mod take;
+mod sealed;
 mod work;
 
 pub use answer::{Answer, ByteAnswer};
 pub use board::Board;
-pub use receiver::{Received, Receiver};
+pub use core_command::CoreCommand;
+pub use receiver::Receiver;

@@ -1,7 +1,10 @@
-// The receiver's state, and the core command that it has read so far.
-ghost use Rattle.std.specs.Prelude.{◌≡◌, true};
+// The receiver: how far a frame has been read, and the bytes of its core command so far.
+ghost use Rattle.std.specs.Prelude.{◌≡◌, length, true};
 ghost use Rattle.board.specs.Progress.{sound};
 
+use buffer::Buffer;
+
+mod idle;
 mod reading;
 
 // How far a frame has been read.
@@ -11,23 +14,16 @@ pub enum Progress {
     LengthLow,
     // The length's low byte.
     LengthHigh(u8),
-    // The length, and how many bytes of the core command are there.
-    Body(u16, u16),
-    CheckLow(u16),
-    // The length, and the checksum's low byte.
-    CheckHigh(u16, u8),
+    // The length.
+    Body(u16),
+    CheckLow,
+    // The checksum's low byte.
+    CheckHigh(u8),
 }
 
 #[derive(Drop)]
 pub struct Receiver {
     progress: Progress,
-    pub(crate) core: [u8; 299],
-    ghost sound: { sound progress ≡ true },
-}
-
-// What a byte comes to that is not refused: the frame goes on, or its core command is there, of some length.
-#[derive(Clone, Copy)]
-pub enum Received {
-    Part,
-    Core(u16),
+    core: Buffer<299>,
+    ghost sound: { sound progress (length core) ≡ true },
 }

@@ -8,6 +8,9 @@ ghost use Rattle.board.specs.Sending.{sent_of};
 use fault::Fault;
 use wire::frame::write_frame;
 
+// How many bytes of the reply buffer a call needs: the longest reply is the version's.
+pub(crate) const REPLY: usize = 11;
+
 #[derive(Clone, Copy)]
 pub(crate) enum Reply {
     // Nothing at all.
@@ -29,22 +32,32 @@ impl Reply {
     pub(crate) fn to_refusal(fault: &Fault) -> Reply
         ensures { sent_of result ≡ refused_sends fault.now }
     {
-        match fault.number() {
-            3 => Reply::Nothing,
-            9 => Reply::Unknown,
-            number => {
-                if number >= 81 {
-                    Reply::Number(number)
-                } else {
-                    Reply::Refused
-                }
-            }
+        match fault {
+            Fault::Dark => Reply::Nothing,
+            Fault::UnknownCommand(_) => Reply::Unknown,
+            Fault::NoHeader(_) | Fault::BadChecksum(_) | Fault::NoLength | Fault::TooLong(_) =>
+                Reply::Number(fault.number()),
+            Fault::ReplyShort
+            | Fault::WorkShort
+            | Fault::ImageSize
+            | Fault::DataCount
+            | Fault::OutputShort
+            | Fault::OutsideMap
+            | Fault::BadLine
+            | Fault::PacketLength(_)
+            | Fault::BadIv(_)
+            | Fault::NotOpened
+            | Fault::BadNumber(_)
+            | Fault::MayNotOpen(_)
+            | Fault::OutOfTurn(_)
+            | Fault::OutsideArea(_)
+            | Fault::BadKeyType(_)
+            | Fault::OldKey(_) => Reply::Refused,
         }
     }
 
     // Writes it at the front of the reply buffer, and says how many bytes it has.
-    pub(crate) fn write(self, reply: &mut [u8]) -> usize
-        requires { 11 ≤ length reply.old }
+    pub(crate) fn write(self, reply: &mut [u8; REPLY]) -> usize
         ensures reply { reply.new ≡ over (sent_of self) reply.old }
         ensures count { result ≡ length (sent_of self) }
         ensures bound { result ≤ 11 }
@@ -64,9 +77,8 @@ impl Reply {
 }
 
 // Writes the byte 0x00, and the frame of a core command behind it.
-fn acknowledge(reply: &mut [u8], core: &[u8]) -> usize
-    requires room { 11 ≤ length reply.old }
-    requires core { (1 ≤ length core.now) × (length core.now ≤ 5) }
+fn acknowledge(reply: &mut [u8; REPLY], core: &[u8]) -> usize
+    requires { (1 ≤ length core.now) × (length core.now ≤ 5) }
     ensures reply { reply.new ≡ over (acknowledged core.now) reply.old }
     ensures count { result ≡ length core.now + 6 }
 {

@@ -1,24 +1,20 @@
-// A guard over the work buffer: when it ends, on whatever way, the first 266 bytes are wiped.
-ghost use Rattle.std.specs.Prelude.{◌≡◌, ◌≤◌, length};
-ghost use Rattle.board.specs.Wiped.{wiped};
+// A guard over the work buffer: when it ends, on whatever way, the buffer is wiped.
+ghost use Rattle.std.specs.Prelude.{◌≡◌};
+ghost use Rattle.board.specs.Wiped.{zeros};
+
+// How many bytes of the work buffer a call needs.
+pub(crate) const WORK: usize = 266;
 
 pub(crate) struct Guard<'a> {
-    pub(crate) bytes: &'a mut [u8],
+    pub(crate) bytes: &'a mut [u8; WORK],
 }
 
-fn wipe(bytes: &mut [u8])
-    requires { 266 ≤ length bytes.old }
-    ensures { bytes.new ≡ wiped bytes.old }
-{
-    bytes[0..266].fill(0);
-}
-
+#[tactic(auto, unfolding(crate::specs::Wiped::zeros))]
 impl Drop for Guard<'_> {
     fn drop(self)
-        requires { 266 ≤ length self.bytes.now }
-        ensures { self.exit.0.now ≡ wiped self.entry.bytes.now }
+        ensures { self.exit.0.now ≡ zeros }
     {
-        wipe(self.bytes);
+        self.bytes.fill(0);
         let Guard { bytes: _ } = self;
     }
 }

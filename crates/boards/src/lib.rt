@@ -7,8 +7,9 @@ mod tests {
     use board::{Board, ByteAnswer};
     use cipher::{Aes128, BlockCipher, Ccm, Gcm, PacketCipher};
     use fault::Fault;
-    use memory::{Held, LentImage, Memory, Scrambler, Supply, lend, sized};
+    use memory::{Held, LentImage, Memory, Scrambler, Supply};
     use packer::{DataPacket, pack_data};
+    use std::alloc::Global;
     use std::mem::size_of;
     use std::process::Abort;
     use std::test::Fail;
@@ -164,32 +165,18 @@ mod tests {
         update(rt, &mut board, iv)
     }
 
-    fn over_the_image<C: PacketCipher>(
-        rt: &impl Abort,
-        image: &mut [u8],
-        iv: &[u8; 16],
-    ) -> Result<(), Fail> {
-        sized(image)?;
-        all::<_, C>(rt, lend(image, Held::fresh(KEY, KEK), Supply::NoEnd), iv)
+    fn lent(image: &mut [u8]) -> Result<LentImage<'_>, Fault> {
+        LentImage::over(image, Held::fresh(KEY, KEK), Supply::NoEnd)
     }
 
-    fn scrambled<M: Memory + Drop, C: PacketCipher>(
-        rt: &impl Abort,
-        below: M,
-        iv: &[u8; 16],
-    ) -> Result<(), Fail> {
+    // The calls of a cipher, over a lent image and then over a scrambler.
+    fn calls<C: PacketCipher>(rt: &impl Abort, heap: Global, iv: &[u8; 16]) -> Result<(), Fail> {
+        let mut image = vec![in heap; 0xFFu8; 61056]?;
+        all::<_, C>(rt, lent(&mut image)?, iv)?;
+        let below = lent(&mut image)?;
         let mut memory = Scrambler { below, fixed: 0x5A };
         memory.set_vector(0xFF, 0xFF)?;
         all::<_, C>(rt, memory, iv)
-    }
-
-    fn over_a_scrambler<C: PacketCipher>(
-        rt: &impl Abort,
-        image: &mut [u8],
-        iv: &[u8; 16],
-    ) -> Result<(), Fail> {
-        sized(image)?;
-        scrambled::<_, C>(rt, lend(image, Held::fresh(KEY, KEK), Supply::NoEnd), iv)
     }
 
     // What a board takes beside its memory, with both buffers, against the 910 bytes that it may take.
@@ -203,15 +190,11 @@ mod tests {
 
     #[test]
     fn calls_with_ccm(rt: HostRuntime) -> Result<(), Fail> {
-        let mut image = vec![in rt.alloc(); 0xFFu8; 61056]?;
-        over_the_image::<Ccm<Aes128>>(&rt, &mut image, &CCM_IV)?;
-        over_a_scrambler::<Ccm<Aes128>>(&rt, &mut image, &CCM_IV)
+        calls::<Ccm<Aes128>>(&rt, rt.alloc(), &CCM_IV)
     }
 
     #[test]
     fn calls_with_gcm(rt: HostRuntime) -> Result<(), Fail> {
-        let mut image = vec![in rt.alloc(); 0xFFu8; 61056]?;
-        over_the_image::<Gcm<Aes128>>(&rt, &mut image, &GCM_IV)?;
-        over_a_scrambler::<Gcm<Aes128>>(&rt, &mut image, &GCM_IV)
+        calls::<Gcm<Aes128>>(&rt, rt.alloc(), &GCM_IV)
     }
 }

@@ -3,9 +3,9 @@ use Rattle.std.proofs.Common.{◌≡◌, ℕ, zero, suc, ◌+◌, ◌-◌, ◌*�
 use native.Mathlib.Nat.{suc-min-suc}
 use lib.Bits.{bit_xor, bit_or, xor_assoc, xor_self, xor_zero_r, or_add_and, and_le_r}
 use borrow.Author.Tests.{eqb-false}
-use Rattle.std.proofs.lemmas.List.{append_assoc, append-nil, take_all, drop_all, take_at, drop_at, set_split, take_more_set, drop-drop, length-set, drop-replicate}
+use Rattle.std.proofs.lemmas.List.{append_assoc, append-nil, take_all, drop_all, take_at, drop_at, set_split, take_more_set, drop-drop, length-set}
 use Rattle.cipher.specs.Bytes.{xors}
-use Rattle.cipher.specs.Blocks.{stream, padded, block_at, chain}
+use Rattle.cipher.specs.Blocks.{stream, padded, block_at, blocks, chain}
 use Rattle.cipher.specs.Sealing.{xor_from, same}
 use Rattle.cipher.specs.Schemes.{length_xor_from}
 
@@ -120,40 +120,33 @@ stream_more f first i m orig now pad h em lp ep e =
     rw more (ap₂ ◌++◌ (ap (xor_from s 0) (take-add n 16 orig) ∙ xor_from_append s 0 n xs (take 16 ys) (omega arith)) (sym (drop-drop 16 n orig))) in
     left ∙ sym (append_assoc (xor_from s 0 xs) (xor_from s n (take 16 ys)) (drop 16 ys)) ∙ sym right
 
--- the last block of data, with zeros behind it
-pub short_block : (xs part : List ℕ) (n : ℕ) → n ≤ 16 → length xs ≡ n → part ≡ xs → part ++ drop n (replicate 16 0) ≡ padded (take 16 xs)
-short_block xs part n h l e =
-    let t : take 16 xs ≡ xs = take_all 16 xs (omega arith) in
-    rw t (ap₂ ◌++◌ e (drop-replicate n 16 0 ∙ ap (λ m. replicate (16 - m) 0) (sym l)))
+-- 16 bytes are a block
+pub whole_block : (xs : List ℕ) → length xs ≤ 16 → 16 ≤ length xs → take 16 xs ≡ padded xs
+whole_block xs h k =
+    let z : 16 - length xs ≡ 0 = omega arith in
+    take_all 16 xs h ∙ sym (append-nil xs) ∙ ap (λ n. xs ++ replicate n 0) (sym z)
+
+-- a part more of data that is cut into blocks: part k, and what is left behind it
+module _ (d rest part left : List ℕ) (k size : ℕ) (es : size ≡ 16) (er : rest ≡ drop (16 * k) d)
+    (steps : (rest ≡ part ++ left) × (length part ≡ min size (length rest)) × (0 < length rest)) where
+  long : length part ≡ min 16 (length rest)
+  long = steps.1 ∙ ap (λ n. min n (length rest)) es
+
+  pub part_block : padded part ≡ block_at d k
+  part_block = ap padded (sym (take_at part left (length part) refl) ∙ ap₂ take long (sym steps.0) ∙ take_min 16 rest ∙ ap (take 16) er)
+
+  pub part_left : left ≡ drop (16 * (k + 1)) d
+  part_left =
+      sym (drop_at part left (length part) refl) ∙ ap₂ drop long (sym steps.0) ∙ drop_min 16 rest ∙ ap (drop 16) er ∙ drop-drop 16 (16 * k) d
+      ∙ ap (λ n. drop n d) (omega arith)
+
+  pub part_within : 16 * (k + 1) < length d + 16
+  part_within = omega (arith, ap length er, length-drop (16 * k) d, steps.2)
+
+-- all parts of data were blocks
+pub all_parts : (d rest : List ℕ) (k : ℕ) → rest ≡ drop (16 * k) d → length rest ≡ 0 → 16 * k < length d + 16 → k ≡ blocks (length d)
+all_parts d rest k e z h = omega (arith, ap length e, length-drop (16 * k) d)
 
 -- one block more of a chain
 pub chain_more : {X : Type 0} (step : X → List ℕ → X) (x : X) (xs : List ℕ) (i : ℕ) → chain step x xs (i + 1) ≡ step (chain step x xs i) (block_at xs i)
 chain_more step x xs i = rw add-one
-
--- a work buffer with bytes and zeros at its front
-pub laid_work : (w bs b z : List ℕ) (n : ℕ) → length bs ≡ n → n ≤ 266 → 266 ≤ length w → b ≡ bs → z ≡ replicate (266 - n) 0
-    → take n (b ++ drop (n - 0) w) ++ (z ++ drop (266 - n) (drop n (b ++ drop (n - 0) w))) ≡ (bs ++ replicate (266 - n) 0) ++ drop 266 w
-laid_work w bs b z n l h k eb ez =
-    let nz : n - 0 ≡ n = omega arith in
-    let e266 : n + (266 - n) ≡ 266 = omega arith in
-    let d0 : drop n (b ++ drop (n - 0) w) ≡ drop n w = ap (λ t. drop n (t ++ drop (n - 0) w)) eb ∙ drop_at bs (drop (n - 0) w) n l ∙ ap (λ m. drop m w) nz in
-    let t0 : take n (b ++ drop (n - 0) w) ≡ bs = ap (λ t. take n (t ++ drop (n - 0) w)) eb ∙ take_at bs (drop (n - 0) w) n l in
-    let d1 : drop (266 - n) (drop n w) ≡ drop 266 w = drop-drop (266 - n) n w ∙ ap (λ m. drop m w) e266 in
-    rw (t0, d0, d1, ez) (sym (append_assoc bs (replicate (266 - n) 0) (drop 266 w)))
-
--- the contents in the middle of a buffer, and the tag behind them
-pub sealed_work : (out c t : List ℕ) (n m : ℕ) → length c ≡ n → length out ≡ n + m
-    → take n (c ++ drop (n - 0) out) ++ (t ++ drop m (drop n (c ++ drop (n - 0) out))) ≡ c ++ t
-sealed_work out c t n m l h =
-    let nz : n - 0 ≡ n = omega arith in
-    let d0 : drop n (c ++ drop (n - 0) out) ≡ drop n out = drop_at c (drop (n - 0) out) n l ∙ ap (λ k. drop k out) nz in
-    let t0 : take n (c ++ drop (n - 0) out) ≡ c = take_at c (drop (n - 0) out) n l in
-    let d1 : drop m (drop n out) ≡ [] = drop-drop m n out ∙ drop_all (n + m) out (omega arith) in
-    rw (t0, d0, d1) (ap (λ u. c ++ u) (append-nil t))
-
--- the front of a work buffer written over
-pub front_work : (lw bs c z w : List ℕ) (n : ℕ) → length bs ≡ n → lw ≡ (bs ++ z) ++ w → c ++ drop (n - 0) lw ≡ (c ++ z) ++ w
-front_work lw bs c z w n l e =
-    let nz : n - 0 ≡ n = omega arith in
-    let d : drop (n - 0) lw ≡ z ++ w = ap₂ drop nz (e ∙ append_assoc bs z w) ∙ drop_at bs (z ++ w) n l in
-    ap (λ t. c ++ t) d ∙ sym (append_assoc c z w)

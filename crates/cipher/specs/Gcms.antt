@@ -1,5 +1,5 @@
 -- The laws of GCM.
-use Rattle.std.specs.Prelude.{◌≡◌, ℕ, ◌+◌, ◌/◌, ◌%◌, ◌<◌, ◌≤◌, true, List, [], ◌∷◌, ◌++◌, length, take, replicate, ◌==◌, bit_xor, slice_index, refl}
+use Rattle.std.specs.Prelude.{◌≡◌, ℕ, zero, suc, ◌+◌, ◌/◌, ◌%◌, ◌<◌, ◌≤◌, true, List, [], ◌∷◌, ◌++◌, length, take, replicate, ◌==◌, bit_xor, slice_index, refl}
 use Rattle.std.proofs.Common.{ap, ap₂, ◌∙◌, arith, eqb-true}
 use Rattle.std.proofs.lemmas.List.{append_assoc, take_more}
 use Rattle.std.proofs.lemmas.Bool.{and_parts}
@@ -11,8 +11,23 @@ use Rattle.cipher.specs.Gcm.{gcm, gcm_tag, gcm_mac, gcm_stream, gcm_counter, gcm
 use Rattle.cipher.specs.Schemes.{mode_lawful}
 use Rattle.cipher.specs.Words.{length_xors}
 
-pub same_counter : (iv : List ℕ) (n : ℕ) → length iv ≡ 16 → has_fixed gcm_fixed iv ≡ true → n < 65536 → counter iv n ≡ gcm_counter iv n
-same_counter iv n l h k =
+within : (xs : List ℕ) (i : ℕ) → 0 < slice_index xs i → i < length xs
+within [] i h = absurd (omega arith)
+within (x ∷ xs) zero h = omega arith
+within (x ∷ xs) (suc i) h = omega (arith, within xs i h)
+
+-- the last fixed byte is not 0, so an IV with all of them has 16 bytes
+fixed_long : (iv : List ℕ) → has_fixed gcm_fixed iv ≡ true → 15 < length iv
+fixed_long iv h =
+    let p = and_parts (slice_index iv 12 == 0) _ h in
+    let q = and_parts (slice_index iv 13 == 0) _ p.1 in
+    let r = and_parts (slice_index iv 14 == 0) _ q.1 in
+    let s = and_parts (slice_index iv 15 == 1) true r.1 in
+    within iv 15 (omega (arith, eqb-true (slice_index iv 15) 1 s.0))
+
+pub same_counter : (iv : List ℕ) (n : ℕ) → has_fixed gcm_fixed iv ≡ true → n < 65536 → counter iv n ≡ gcm_counter iv n
+same_counter iv n h k =
+    let l = fixed_long iv h in
     let y = and_parts (slice_index iv 12 == 0) _ h in
     let z = and_parts (slice_index iv 13 == 0) _ y.1 in
     let a = eqb-true (slice_index iv 12) 0 y.0 in
@@ -28,10 +43,10 @@ xor_from_same s t i m [] h f = refl
 xor_from_same s t i m (x ∷ xs) h f =
     ap₂ (λ n u. bit_xor x n ∷ u) (f i (omega arith)) (xor_from_same s t (i + 1) m xs (omega arith) f)
 
-module _ (E : List ℕ → List ℕ) (iv : List ℕ) (l : length iv ≡ 16) (h : has_fixed gcm_fixed iv ≡ true) where
+module _ (E : List ℕ → List ℕ) (iv : List ℕ) (h : has_fixed gcm_fixed iv ≡ true) where
   pub same_stream : (xs : List ℕ) → length xs ≤ 282 → xor_from (stream (λ n. E (counter iv n)) 2) 0 xs ≡ xor_from (gcm_stream E iv) 0 xs
   same_stream xs k = xor_from_same (stream (λ n. E (counter iv n)) 2) (gcm_stream E iv) 0 282 xs (omega arith)
-      (λ j d. ap (λ b. slice_index (E b) (j % 16)) (same_counter iv (2 + j / 16) l h (omega arith)))
+      (λ j d. ap (λ b. slice_index (E b) (j % 16)) (same_counter iv (2 + j / 16) h (omega arith)))
 
 pub length_gcm_mac : (E : List ℕ → List ℕ) (iv xs : List ℕ) → length (E iv) ≡ 16 → length (gcm_mac E iv xs) ≡ 16
 length_gcm_mac E iv xs h = length_xors (block_bytes (ghash (number (E (replicate 16 0))) xs)) (E iv) ∙ omega arith

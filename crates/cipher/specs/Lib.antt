@@ -5,6 +5,7 @@ pub mod Columns
 pub mod Blocks
 pub mod Cipher
 pub mod Sealing
+pub mod Sessions
 pub mod Ccm
 pub mod Ghash
 pub mod Horner

@@ -10,7 +10,7 @@ mod table;
 
 use crate::block::BlockCipher;
 use columns::Columns;
-use rounds::{added, bytes_of, columns_of, last_step, next_round_key, step};
+use rounds::{last_step, next_round_key, step};
 
 const RCON: [u8; 10] = [0x01, 0x02, 0x04, 0x08, 0x10, 0x20, 0x40, 0x80, 0x1b, 0x36];
 
@@ -22,13 +22,15 @@ pub struct Aes128 {
     ghost schedule: { Schedule key rounds 11 },
 }
 
+// The key and the ten round keys that follow from it.
 fn expanded(key: &[u8; 16]) -> [Columns; 11]
     ensures { Schedule key.now result 11 }
 {
-    let mut k = columns_of(key);
+    let mut k = Columns::from(key);
     let mut keys = [k; 11];
-    for i in 0..10 {
-        k = next_round_key(k, RCON[i]);
+    // By index: of what a zip with `keys.iter_mut()` wrote, nothing could be proved.
+    for (i, constant) in RCON.iter().enumerate() {
+        k = next_round_key(k, *constant);
         keys[i + 1] = k;
     }
     keys
@@ -38,11 +40,11 @@ impl Aes128 {
     fn encrypted(&self, block: &[u8; 16]) -> [u8; 16]
         ensures { result ≡ aes self.now.key block.now }
     {
-        let mut s = added(columns_of(block), self.rounds[0]);
-        for i in 0..9 {
-            s = step(s, self.rounds[i + 1]);
+        let mut s = Columns::from(block) ^ self.rounds[0];
+        for k in &self.rounds[1..10] {
+            s = step(s, *k);
         }
-        bytes_of(last_step(s, self.rounds[10]))
+        last_step(s, self.rounds[10]).into()
     }
 }
 

@@ -1,19 +1,22 @@
 // CCM (RFC 3610) over any block cipher: a nonce of 13 bytes, a tag of 16 and no associated data.
-ghost use Rattle.std.specs.Prelude.{◌≡◌, ◌<◌, true, length};
-ghost use Rattle.cipher.specs.Ccm.{first_block, mac, ccm_tag, ccm};
+ghost use Rattle.std.specs.Prelude.{◌≡◌, ◌<◌, ◌≤◌, length};
+ghost use Rattle.cipher.specs.Ccm.{first_block, mac, ccm_fixed, ccm_stream, ccm_tag, ccm};
 ghost use Rattle.cipher.specs.Ccms.{ccm_lawful};
+ghost use Rattle.cipher.specs.Sealing.{xor_from};
 
 use crate::block::BlockCipher;
-use crate::mode::{
-    add_into, add_stream, block_of, counter_block, decrypt, refused, settled, sized,
-};
+use crate::mode::{Mode, check_fixed, open, seal};
 use crate::packet::PacketCipher;
+use crate::session::{Session, add_into, block_of, counter_block};
 use fault::Fault;
 use std::marker::PhantomData;
 
 pub struct Ccm<B> {
     cipher: PhantomData<B>,
 }
+
+// The places of an IV's fixed bytes, and the bytes.
+const FIXED: [(u8, u8); 3] = [(0, 1), (14, 0), (15, 0)];
 
 fn opening_block(iv: &[u8; 16], n: u16) -> [u8; 16]
     ensures { result ≡ first_block iv.now n }
@@ -24,64 +27,71 @@ fn opening_block(iv: &[u8; 16], n: u16) -> [u8; 16]
 }
 
 // The CBC-MAC of a first block and of data.
-fn cbc_mac<B: BlockCipher>(cipher: &B, first: &[u8; 16], data: &[u8]) -> [u8; 16]
-    ensures { result ≡ mac (B.BlockCipher.block (B.BlockCipher.keyed cipher.now)) first.now «data».now }
+fn cbc_mac<B: BlockCipher>(session: &Session<B>, first: &[u8; 16], data: &[u8]) -> [u8; 16]
+    ensures { result ≡ mac (B.block session.now.key) first.now «data».now }
 {
     let mut x = *first;
-    cipher.encrypt(&mut x);
-    for i in 0..data.len().div_ceil(16) {
-        let b = block_of(data, i);
-        add_into(&mut x, &b);
-        cipher.encrypt(&mut x);
+    session.encrypt(&mut x);
+    for part in data.chunks(16) {
+        add_into(&mut x, &block_of(part));
+        session.encrypt(&mut x);
     }
     x
 }
 
-fn tag_of<B: BlockCipher>(cipher: &B, iv: &[u8; 16], contents: &[u8]) -> [u8; 16]
+fn tag_of<B: BlockCipher>(session: &Session<B>, contents: &[u8]) -> [u8; 16]
     requires { length contents.now < 65536 }
-    ensures { result ≡ ccm_tag (B.BlockCipher.block (B.BlockCipher.keyed cipher.now)) iv.now contents.now }
+    ensures { result ≡ ccm_tag (B.block session.now.key) session.now.iv contents.now }
 {
-    let first = opening_block(iv, contents.len() as u16);
-    let mut x = cbc_mac(cipher, &first, contents);
-    let mut pad = counter_block(iv, 0);
-    cipher.encrypt(&mut pad);
-    add_into(&mut x, &pad);
+    let iv = session.iv();
+    let first = opening_block(&iv, contents.len() as u16);
+    let mut x = cbc_mac(session, &first, contents);
+    session.mask(&mut x, counter_block(&iv, 0));
     x
+}
+
+// Adds the key stream that follows counter block 0 to `data`.
+fn add_key_stream<B: BlockCipher>(session: &Session<B>, data: &mut [u8])
+    requires { length «data».old ≤ 266 }
+    ensures { «data».new ≡ xor_from (ccm_stream (B.block session.now.key) session.now.iv) 0 «data».old }
+{
+    session.add_stream(1, data);
+}
+
+impl<B: BlockCipher> Mode<B> for Ccm<B> {
+    ghost fixed = { ccm_fixed };
+
+    ghost stream = { ccm_stream };
+
+    ghost tag = { ccm_tag };
+
+    fn encrypt(session: &Session<B>, contents: &mut [u8]) -> [u8; 16] {
+        let tag = tag_of(session, contents);
+        add_key_stream(session, contents);
+        tag
+    }
+
+    fn decrypt(session: &Session<B>, covered: &[u8], contents: &mut [u8]) -> [u8; 16] {
+        contents.copy_from_slice(covered);
+        add_key_stream(session, contents);
+        tag_of(session, contents)
+    }
 }
 
 impl<B: BlockCipher> PacketCipher for Ccm<B> {
-    ghost cipher = { ccm B.BlockCipher.block };
+    ghost cipher = { ccm B.block };
 
-    ghost lawful = { ccm_lawful B.BlockCipher.block B.BlockCipher.size };
+    ghost lawful = { ccm_lawful B.block B.size };
 
     fn check_iv(iv: &[u8; 16]) -> Result<(), Fault> {
-        if iv[0] != 1 {
-            Err(Fault::BadIv(0))
-        } else if iv[14] != 0 {
-            Err(Fault::BadIv(14))
-        } else if iv[15] != 0 {
-            Err(Fault::BadIv(15))
-        } else {
-            Ok(())
-        }
+        check_fixed(&FIXED, iv)
     }
 
     fn seal(key: &[u8; 16], iv: &[u8; 16], out: &mut [u8]) {
-        let n = out.len() - 16;
-        let cipher = B::new(key);
-        let tag = tag_of(&cipher, iv, &out[0..n]);
-        add_stream(&cipher, iv, 1, &mut out[0..n]);
-        out[n..].copy_from_slice(&tag);
+        seal::<B, Self>(key, iv, out);
     }
 
     fn open(key: &[u8; 16], iv: &[u8; 16], body: &[u8], work: &mut [u8]) -> Result<usize, Fault> {
-        if !sized(body) {
-            return refused(work);
-        }
-        let n = body.len() - 16;
-        let cipher = B::new(key);
-        decrypt(&cipher, iv, 1, &body[0..n], work);
-        let tag = tag_of(&cipher, iv, &work[0..n]);
-        settled(&tag, &body[n..], n, work)
+        open::<B, Self>(key, iv, body, work)
     }
 }

@@ -1,14 +1,15 @@
 // GCM (SP 800-38D) over any block cipher: a nonce of 12 bytes, a tag of 16 and no associated data.
 ghost use Rattle.std.specs.Prelude.{◌≡◌, ◌≤◌, true, length};
-ghost use Rattle.cipher.specs.Gcm.{gcm_fixed, gcm_mac, gcm_stream, gcm};
-ghost use Rattle.cipher.specs.Sealing.{has_fixed, xor_from};
+ghost use Rattle.cipher.specs.Gcm.{gcm_fixed, gcm_mac, gcm_stream, gcm_tag, gcm};
 ghost use Rattle.cipher.specs.Gcms.{gcm_lawful};
+ghost use Rattle.cipher.specs.Sealing.{has_fixed, xor_from};
 
 mod ghash;
 
 use crate::block::BlockCipher;
-use crate::mode::{add_into, add_stream, decrypt, refused, settled, sized};
+use crate::mode::{Mode, check_fixed, open, seal};
 use crate::packet::PacketCipher;
+use crate::session::Session;
 use fault::Fault;
 use ghash::Factor;
 use std::marker::PhantomData;
@@ -17,65 +18,64 @@ pub struct Gcm<B> {
     cipher: PhantomData<B>,
 }
 
+// The places of an IV's fixed bytes, and the bytes.
+const FIXED: [(u8, u8); 4] = [(12, 0), (13, 0), (14, 0), (15, 1)];
+
 // The tag of bytes under the key stream.
-fn mac_of<B: BlockCipher>(cipher: &B, iv: &[u8; 16], data: &[u8]) -> [u8; 16]
-    requires { length «data».now ≤ 282 }
-    ensures { result ≡ gcm_mac (B.BlockCipher.block (B.BlockCipher.keyed cipher.now)) iv.now «data».now }
+fn mac_of<B: BlockCipher>(session: &Session<B>, covered: &[u8]) -> [u8; 16]
+    requires { length covered.now ≤ 282 }
+    ensures { result ≡ gcm_mac (B.block session.now.key) session.now.iv covered.now }
 {
     let mut h = [0; 16];
-    cipher.encrypt(&mut h);
+    session.encrypt(&mut h);
     let factor = Factor::new(u128::from_be_bytes(h));
-    let mut x = factor.ghash(data).to_be_bytes();
-    let mut pad = *iv;
-    cipher.encrypt(&mut pad);
-    add_into(&mut x, &pad);
+    let mut x = factor.ghash(covered).to_be_bytes();
+    session.mask(&mut x, session.iv());
     x
 }
 
 // Adds the key stream that follows the IV, a counter block, to `data`.
-fn add_key_stream<B: BlockCipher>(cipher: &B, iv: &[u8; 16], data: &mut [u8])
-    requires formed { has_fixed gcm_fixed iv.now ≡ true }
+fn add_key_stream<B: BlockCipher>(session: &Session<B>, data: &mut [u8])
+    requires formed { has_fixed gcm_fixed session.now.iv ≡ true }
     requires short { length «data».old ≤ 282 }
-    ensures { «data».new ≡ xor_from (gcm_stream (B.BlockCipher.block (B.BlockCipher.keyed cipher.now)) iv.now) 0 «data».old }
+    ensures { «data».new ≡ xor_from (gcm_stream (B.block session.now.key) session.now.iv) 0 «data».old }
 {
-    add_stream(cipher, iv, 2, data);
+    session.add_stream(2, data);
+}
+
+impl<B: BlockCipher> Mode<B> for Gcm<B> {
+    ghost fixed = { gcm_fixed };
+
+    ghost stream = { gcm_stream };
+
+    ghost tag = { gcm_tag };
+
+    fn encrypt(session: &Session<B>, contents: &mut [u8]) -> [u8; 16] {
+        add_key_stream(session, contents);
+        mac_of(session, contents)
+    }
+
+    fn decrypt(session: &Session<B>, covered: &[u8], contents: &mut [u8]) -> [u8; 16] {
+        contents.copy_from_slice(covered);
+        add_key_stream(session, contents);
+        mac_of(session, covered)
+    }
 }
 
 impl<B: BlockCipher> PacketCipher for Gcm<B> {
-    ghost cipher = { gcm B.BlockCipher.block };
+    ghost cipher = { gcm B.block };
 
-    ghost lawful = { gcm_lawful B.BlockCipher.block B.BlockCipher.size };
+    ghost lawful = { gcm_lawful B.block B.size };
 
     fn check_iv(iv: &[u8; 16]) -> Result<(), Fault> {
-        if iv[12] != 0 {
-            Err(Fault::BadIv(12))
-        } else if iv[13] != 0 {
-            Err(Fault::BadIv(13))
-        } else if iv[14] != 0 {
-            Err(Fault::BadIv(14))
-        } else if iv[15] != 1 {
-            Err(Fault::BadIv(15))
-        } else {
-            Ok(())
-        }
+        check_fixed(&FIXED, iv)
     }
 
     fn seal(key: &[u8; 16], iv: &[u8; 16], out: &mut [u8]) {
-        let n = out.len() - 16;
-        let cipher = B::new(key);
-        add_key_stream(&cipher, iv, &mut out[0..n]);
-        let tag = mac_of(&cipher, iv, &out[0..n]);
-        out[n..].copy_from_slice(&tag);
+        seal::<B, Self>(key, iv, out);
     }
 
     fn open(key: &[u8; 16], iv: &[u8; 16], body: &[u8], work: &mut [u8]) -> Result<usize, Fault> {
-        if !sized(body) {
-            return refused(work);
-        }
-        let n = body.len() - 16;
-        let cipher = B::new(key);
-        decrypt(&cipher, iv, 2, &body[0..n], work);
-        let tag = mac_of(&cipher, iv, &body[0..n]);
-        settled(&tag, &body[n..], n, work)
+        open::<B, Self>(key, iv, body, work)
     }
 }

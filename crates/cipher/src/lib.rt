@@ -7,6 +7,7 @@ mod ccm;
 mod gcm;
 mod mode;
 mod packet;
+mod session;
 
 pub use aes::Aes128;
 pub use block::BlockCipher;

@@ -1,144 +1,131 @@
-// What the modes share: data as blocks of 16 bytes, the key stream, the tag.
-ghost use Rattle.std.specs.Prelude.{◌≡◌, ◌+◌, ◌-◌, ◌*◌, ◌<◌, ◌≤◌, List, ◌++◌, length, drop, replicate, if◌then◌else◌, Ok, Err};
-ghost use Rattle.fault.specs.declared.Fault.TheVariants.{NotOpened};
-ghost use Rattle.cipher.specs.Bytes.{xors};
-ghost use Rattle.cipher.specs.Blocks.{block_at, blocks, counter, stream};
-ghost use Rattle.cipher.specs.Sealing.{xor_from, same, body_sized};
+// What the modes share: an IV's fixed bytes, sealing in place, opening into a work buffer.
+ghost use Rattle.std.specs.Prelude.{◌≡◌, ℕ, ◌-◌, ◌<◌, ◌≤◌, Bool, true, false, List, ◌++◌, length, take, drop, replicate, Ok, Err, if◌then◌else◌, MatchOption};
+ghost use Rattle.std.specs.List.{All};
+ghost use Rattle.fault.specs.declared.Fault.TheVariants.{BadIv, NotOpened};
+ghost use Rattle.cipher.specs.Cipher.{opening, yielded};
+ghost use Rattle.cipher.specs.Sealing.{xor_from, same, sealed, body_sized, opened, Fixed, has_fixed, first_unfixed};
 
 use crate::block::BlockCipher;
+use crate::session::Session;
 use fault::Fault;
 
-pub(crate) fn counter_block(iv: &[u8; 16], n: u16) -> [u8; 16]
-    ensures { result ≡ counter iv.now n }
-{
-    let [high, low] = n.to_be_bytes();
-    let mut b = *iv;
-    b[14] = high;
-    b[15] = low;
-    b
+// A key stream and a tag, over a block cipher.
+pub(crate) trait Mode<B: BlockCipher> {
+    // The bytes that an IV must have.
+    ghost fixed: { Fixed };
+
+    // The key stream and the tag of contents, of what a block cipher makes of blocks and of an IV.
+    ghost stream: { (List ℕ → List ℕ) → List ℕ → ℕ → ℕ };
+
+    ghost tag: { (List ℕ → List ℕ) → List ℕ → List ℕ → List ℕ };
+
+    // Puts contents under the key stream, and says their tag.
+    fn encrypt(session: &Session<B>, contents: &mut [u8]) -> [u8; 16]
+        requires formed { has_fixed fixed session.now.iv ≡ true }
+        requires short { length contents.old ≤ 266 }
+        ensures contents { contents.new ≡ xor_from (stream (B.block session.now.key) session.now.iv) 0 contents.old }
+        ensures tag { result ≡ tag (B.block session.now.key) session.now.iv contents.old };
+
+    // Writes the contents that stand under the key stream, and says their tag.
+    fn decrypt(session: &Session<B>, covered: &[u8], contents: &mut [u8]) -> [u8; 16]
+        requires formed { has_fixed fixed session.now.iv ≡ true }
+        requires short { length covered.now ≤ 266 }
+        requires same_size { length contents.old ≡ length covered.now }
+        ensures contents { contents.new ≡ xor_from (stream (B.block session.now.key) session.now.iv) 0 covered.now }
+        ensures tag { result ≡ tag (B.block session.now.key) session.now.iv contents.new };
 }
 
-// The block of `data` at 16 * i, with zeros behind its end.
-pub(crate) fn block_of(data: &[u8], i: usize) -> [u8; 16]
-    requires { 16 * i ≤ length «data».now }
-    ensures { result ≡ block_at «data».now i }
+// Refuses an IV at the first place where it has not the fixed byte.
+pub(crate) fn check_fixed(fixed: &[(u8, u8)], iv: &[u8; 16]) -> Result<(), Fault>
+    requires { All (λ p. p.0 < 16) fixed.now }
+    ensures { result ≡ (if has_fixed fixed.now iv.now then Ok tt else Err (BadIv (first_unfixed fixed.now iv.now))) }
 {
-    let mut b = [0; 16];
-    let from = 16 * i;
-    let rest = data.len() - from;
-    if rest < 16 {
-        b[0..rest].copy_from_slice(&data[from..from + rest]);
-    } else {
-        b.copy_from_slice(&data[from..from + 16]);
+    for (place, byte) in fixed {
+        if iv[usize::from(*place)] != *byte {
+            return Err(Fault::BadIv(*place));
+        }
     }
-    b
+    Ok(())
 }
 
-// Adds the bytes of `pad` to those of `part`, by exclusive or.
-pub(crate) fn add_into(part: &mut [u8], pad: &[u8; 16])
-    requires { length part.old ≤ 16 }
-    ensures { part.new ≡ xors part.old pad.now }
+// Seals in place: `out` holds the contents, and behind them 16 bytes for the tag.
+pub(crate) fn seal<B: BlockCipher, M: Mode<B>>(key: &[u8; 16], iv: &[u8; 16], out: &mut [u8])
+    requires formed { has_fixed M.fixed iv.now ≡ true }
+    requires low { 16 ≤ length out.old }
+    requires high { length out.old ≤ 282 }
+    ensures { out.new ≡ sealed (M.stream (B.block key.now) iv.now) (M.tag (B.block key.now) iv.now) (take (length out.old - 16) out.old) }
 {
-    for i in 0..part.len() {
-        part[i] ^= pad[i];
+    let n = out.len() - 16;
+    let tag = M::encrypt(&Session::new(key, iv), &mut out[..n]);
+    out[n..].copy_from_slice(&tag);
+}
+
+// A body of 16 to 282 bytes as the contents under the key stream, and the tag.
+fn parted(body: &[u8]) -> Option<(&[u8], &[u8; 16])>
+    ensures { MatchOption result (body_sized body.now ≡ false) (λ p. (body_sized body.now ≡ true) × (p.0.now ≡ take (length body.now - 16) body.now) × (p.1.now ≡ drop (length body.now - 16) body.now)) }
+{
+    let (covered, tag) = body.split_last_chunk()?;
+    if covered.len() <= 266 {
+        Some((covered, tag))
+    } else {
+        None
     }
 }
 
 // Whether two tags are equal, looking at all bytes of both.
-pub(crate) fn same_tag(a: &[u8; 16], b: &[u8]) -> bool
-    requires { length b.now ≡ 16 }
+fn same_tag(a: &[u8; 16], b: &[u8; 16]) -> bool
     ensures { result ≡ same a.now b.now }
 {
     let mut difference = 0;
-    for i in 0..16 {
-        difference |= a[i] ^ b[i];
+    for (x, y) in a.iter().zip(b) {
+        difference |= x ^ y;
     }
     difference == 0
 }
 
-pub(crate) fn wipe(s: &mut [u8])
-    ensures { s.new ≡ replicate (length s.old) 0 }
-{
-    s.fill(0);
-}
-
-// Adds the key stream of the counter blocks `first`, `first + 1`, .. to `data`.
-pub(crate) fn add_stream<B: BlockCipher>(cipher: &B, iv: &[u8; 16], first: u16, data: &mut [u8])
-    requires { first + blocks (length «data».old) < 65536 }
-    ensures { «data».new ≡ xor_from (stream (λ n. B.BlockCipher.block (B.BlockCipher.keyed cipher.now) (counter iv.now n)) first) 0 «data».old }
-{
-    let size = data.len();
-    let mut n = first;
-    for i in 0..size.div_ceil(16) {
-        let from = 16 * i;
-        let to = size.min(from + 16);
-        let mut pad = counter_block(iv, n);
-        cipher.encrypt(&mut pad);
-        add_into(&mut data[from..to], &pad);
-        n += 1;
-    }
-}
-
-// Lays `bytes` at the front of the first 266 bytes of `work`, with zeros behind them.
-pub(crate) fn lay(work: &mut [u8], bytes: &[u8])
-    requires short { length bytes.now ≤ 266 }
-    requires long { 266 ≤ length work.old }
-    ensures { work.new ≡ (bytes.now ++ replicate (266 - length bytes.now) 0) ++ drop 266 work.old }
-{
-    let n = bytes.len();
-    work[0..n].copy_from_slice(bytes);
-    wipe(&mut work[n..266]);
-}
-
-// Lays `body` at the front of the first 266 bytes of `work`, with zeros behind it, and adds the key stream to it.
-pub(crate) fn decrypt<B: BlockCipher>(
-    cipher: &B,
-    iv: &[u8; 16],
-    first: u16,
-    body: &[u8],
-    work: &mut [u8],
-)
-    requires low { first ≤ 2 }
-    requires short { length body.now ≤ 266 }
-    requires long { 266 ≤ length work.old }
-    ensures { work.new ≡ (xor_from (stream (λ n. B.BlockCipher.block (B.BlockCipher.keyed cipher.now) (counter iv.now n)) first) 0 body.now ++ replicate (266 - length body.now) 0) ++ drop 266 work.old }
-{
-    lay(work, body);
-    add_stream(cipher, iv, first, &mut work[0..body.len()]);
-}
-
-// Whether a body has 16 to 282 bytes.
-pub(crate) fn sized(body: &[u8]) -> bool
-    ensures { result ≡ body_sized body.now }
-{
-    body.len() >= 16 && body.len() <= 282
-}
-
-// Wipes the first 266 bytes of `work`, and refuses the body.
-pub(crate) fn refused(work: &mut [u8]) -> Result<usize, Fault>
-    requires { 266 ≤ length work.old }
+// Wipes `work`, and refuses the body.
+fn refused(work: &mut [u8; 266]) -> Result<usize, Fault>
     ensures answer { result ≡ Err NotOpened }
-    ensures work { work.new ≡ replicate 266 0 ++ drop 266 work.old }
+    ensures work { work.new ≡ replicate 266 0 }
 {
-    wipe(&mut work[0..266]);
+    work.fill(0);
     Err(Fault::NotOpened)
 }
 
-// How many bytes were opened, if the two tags are equal; otherwise the first 266 bytes of `work` are wiped.
-pub(crate) fn settled(
-    tag: &[u8; 16],
-    given: &[u8],
-    n: usize,
+fn open_into<B: BlockCipher, M: Mode<B>>(
+    key: &[u8; 16],
+    iv: &[u8; 16],
+    body: &[u8],
+    work: &mut [u8; 266],
+) -> Result<usize, Fault>
+    requires formed { has_fixed M.fixed iv.now ≡ true }
+    ensures answer { result ≡ opening (opened (M.stream (B.block key.now) iv.now) (M.tag (B.block key.now) iv.now) body.now) }
+    ensures work { work.new ≡ yielded (opened (M.stream (B.block key.now) iv.now) (M.tag (B.block key.now) iv.now) body.now) }
+{
+    let Some((covered, given)) = parted(body) else {
+        return refused(work);
+    };
+    let n = covered.len();
+    let tag = M::decrypt(&Session::new(key, iv), covered, &mut work[..n]);
+    if !same_tag(&tag, given) {
+        return refused(work);
+    }
+    work[n..].fill(0);
+    Ok(n)
+}
+
+// Opens a body into the first 266 bytes of `work`, and says how many bytes its contents have.
+pub(crate) fn open<B: BlockCipher, M: Mode<B>>(
+    key: &[u8; 16],
+    iv: &[u8; 16],
+    body: &[u8],
     work: &mut [u8],
 ) -> Result<usize, Fault>
-    requires tag { length given.now ≡ 16 }
-    requires long { 266 ≤ length work.old }
-    ensures answer { result ≡ (if same tag.now given.now then Ok n else Err NotOpened) }
-    ensures after { work.new ≡ (if same tag.now given.now then work.old else replicate 266 0 ++ drop 266 work.old) }
+    requires formed { has_fixed M.fixed iv.now ≡ true }
+    requires room { 266 ≤ length work.old }
+    ensures answer { result ≡ opening (opened (M.stream (B.block key.now) iv.now) (M.tag (B.block key.now) iv.now) body.now) }
+    ensures work { work.new ≡ yielded (opened (M.stream (B.block key.now) iv.now) (M.tag (B.block key.now) iv.now) body.now) ++ drop 266 work.old }
 {
-    if same_tag(tag, given) {
-        Ok(n)
-    } else {
-        refused(work)
-    }
+    let work = work.first_chunk_mut().ok_or(Fault::NotOpened)?;
+    open_into::<B, M>(key, iv, body, work)
 }

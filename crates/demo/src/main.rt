@@ -1,35 +1,18 @@
 // demo: packs an update, sends it to a fresh board, cuts the power in the middle, and tells what the board says on the way.
 #![tactic(auto)]
 
-ghost use Rattle.std.specs.Prelude.{◌≡◌, false, is_ok};
-
-use anyhow::anyhow;
 use board::{Answer, Board};
 use cipher::{Aes128, BlockCipher, Ccm};
 use example::{COUNT, Frame, pack_part, push_frame};
-use fault::Fault;
-use memory::{Held, Memory, Supply, lend, sized};
-use rules::{Boot, Event};
+use memory::{Held, LentImage, Memory, Supply};
 
 const KEY: [u8; 16] = [7; 16];
 
 const KEK: [u8; 16] = [9; 16];
 
-// What a boot question says, in words.
-fn boot_words(boot: Boot) -> &'static str {
-    match boot {
-        Boot::Application => "1, there is an application to start",
-        Boot::Blank => "2, there is no application",
-        Boot::Unfinished => "3, an update is unfinished",
-    }
-}
-
 fn ask<M: Memory>(rt: &HostRuntime, board: &mut Board<M, Ccm<Aes128>>) -> anyhow::Result<()> {
     match board.boot() {
-        Ok(boot) => {
-            let words = boot_words(boot);
-            println!(rt; "  boot question: {words}")?;
-        }
+        Ok(boot) => println!(rt; "  boot question: {}, {boot}", boot.number())?,
         Err(fault) => println!(rt; "  boot question: refused, {fault}")?,
     }
     Ok(())
@@ -43,7 +26,7 @@ fn send<M: Memory>(
     frame: &Frame,
 ) -> anyhow::Result<()> {
     let mut events = Vec::new(rt.alloc());
-    push_frame(&mut events, frame.bytes())?;
+    push_frame(&mut events, frame.as_slice())?;
     let answers = board.run(rt.alloc(), &events)?;
     match answers.last() {
         Some(answer) => told(rt, number, answer),
@@ -64,10 +47,8 @@ fn send_all<M: Memory>(
     board: &mut Board<M, Ccm<Aes128>>,
     frames: &[Frame],
 ) -> anyhow::Result<()> {
-    let mut number = 1;
-    for frame in frames {
+    for (number, frame) in (1..=COUNT).zip(frames) {
         send(rt, board, number, frame)?;
-        number = number.saturating_add(1);
     }
     Ok(())
 }
@@ -91,33 +72,16 @@ fn story<M: Memory + Drop>(rt: &HostRuntime, memory: M, frames: &[Frame]) -> any
     ask(rt, &mut board)
 }
 
-// Ends the story at a refusal that it does not tell of.
-fn refused(rt: &HostRuntime, fault: Fault) -> anyhow::Result<()>
-    ensures { is_ok result ≡ false }
-{
-    println!(rt; "refused: {fault}")?;
-    Err(anyhow!("refused"))
-}
-
 fn main(rt: HostRuntime) -> anyhow::Result<()> {
     let mut frames = Vec::new(rt.alloc());
-    let mut count = 0usize;
-    for number in 1..COUNT + 1 {
-        let frame = match pack_part(&KEY, 1, number) {
-            Ok(frame) => frame,
-            Err(fault) => return refused(&rt, fault),
-        };
-        count = count.saturating_add(frame.bytes().len());
-        frames.push(frame)?;
+    for number in 1..=COUNT {
+        frames.push(pack_part(&KEY, 1, number)?)?;
     }
+    let count = frames
+        .iter()
+        .fold(0usize, |sum, frame| sum.saturating_add(frame.as_slice().len()));
     println!(rt; "Version 1 of an update is packed: {COUNT} packets, {count} bytes of frames.")?;
     let mut image = vec![in rt.alloc(); 0xFFu8; 61056]?;
-    if let Err(fault) = sized(&image) {
-        return refused(&rt, fault);
-    }
-    story(
-        &rt,
-        lend(&mut image, Held::fresh(KEY, KEK), Supply::NoEnd),
-        &frames,
-    )
+    let memory = LentImage::over(&mut image, Held::fresh(KEY, KEK), Supply::NoEnd)?;
+    story(&rt, memory, &frames)
 }

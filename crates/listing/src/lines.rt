@@ -34,6 +34,7 @@ fn event(letter: u8, number: u32) -> Option<Event>
 fn justified_decimal(columns: &[u8]) -> Option<u32>
     ensures { result ≡ justified_decimal_read columns.now }
 {
+    // `trim_ascii_start` would drop more than spaces.
     let mut rest = columns;
     while let [b' ', more @ ..] = rest {
         rest = more;
@@ -45,10 +46,12 @@ fn justified_decimal(columns: &[u8]) -> Option<u32>
 pub fn read_line(line: &[u8]) -> Result<Event, Fault>
     ensures { result ≡ line_event line.now }
 {
-    if line.len() != 12 {
+    let [letter, columns @ ..] = line else {
+        return Err(Fault::BadLine);
+    };
+    if columns.len() != 11 {
         return Err(Fault::BadLine);
     }
-    let (_, columns) = line.split_at(1);
     let number = justified_decimal(columns).ok_or(Fault::BadLine)?;
-    event(line[0], number).ok_or(Fault::BadLine)
+    event(*letter, number).ok_or(Fault::BadLine)
 }

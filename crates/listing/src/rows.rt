@@ -1,4 +1,4 @@
-// Rows of the listing: what is printed for each answer.
+// Rows of the listing: what is printed for each answer. By hand, since no clause of `write!` says that it writes where there is room.
 ghost use Rattle.std.specs.Prelude.{◌≡◌, ◌+◌, ◌-◌, ◌*◌, ◌%◌, ◌^◌, ◌<◌, ◌≤◌, min, true, ◌++◌, length, replicate, is_ok, if◌then◌else◌, vec_len, vec_capacity};
 ghost use Rattle.listing.specs.Appends.{Appended, Room};
 ghost use Rattle.listing.specs.Rows.{answer_of, in_four_columns, refusal_number, right_justified, row, said_number};
@@ -72,22 +72,15 @@ fn push_said(out: &mut Vec<u8>, boot: Option<Boot>)
 fn refusal_number(refusal: Option<Fault>) -> u8
     ensures { result ≡ refusal_number refusal }
 {
-    match refusal {
-        Some(fault) => fault.number(),
-        None => 0,
-    }
+    refusal.map_or(0, |fault| fault.number())
 }
 
 // The length of a row; 2^64 - 1 where it is above.
 fn row_length(boot: Option<Boot>, sent: &[u8]) -> usize
     ensures { result ≡ min (11 + 4 * (length (said_number boot) + length sent.now)) (2 ^ 64 - 1) }
 {
-    let said = match boot {
-        Some(_) => 1,
-        None => 0,
-    };
     sent.len()
-        .saturating_add(said)
+        .saturating_add(usize::from(boot.is_some()))
         .saturating_mul(4)
         .saturating_add(11)
 }

@@ -6,7 +6,7 @@
 mod tests {
     use fault::Fault;
     use memory::{
-        AREAS, Held, KeyRecord, KeySlot, Memory, Scrambler, Supply, lend, mass_erase, sized,
+        AREAS, Held, KeyRecord, KeySlot, LentImage, Memory, Scrambler, Supply, mass_erase, sized,
         store_data,
     };
     use std::process::Abort;
@@ -234,42 +234,29 @@ mod tests {
         Held::fresh([0; 16], [0; 16])
     }
 
-    fn over_the_image(rt: &impl Abort, image: &mut [u8]) -> Result<(), Fail> {
-        sized(image)?;
-        all(rt, lend(image, fresh(), Supply::NoEnd))
-    }
-
-    fn all_scrambled<M: Memory + Drop>(rt: &impl Abort, below: M) -> Result<(), Fail> {
-        all(rt, Scrambler { below, fixed: 0x5A })
-    }
-
-    fn all_scrambled_twice<M: Memory + Drop>(rt: &impl Abort, below: M) -> Result<(), Fail> {
-        all_scrambled(rt, Scrambler { below, fixed: 0xC3 })
-    }
-
-    fn over_a_scrambler(rt: &impl Abort, image: &mut [u8]) -> Result<(), Fail> {
-        sized(image)?;
-        all_scrambled(rt, lend(image, fresh(), Supply::NoEnd))
-    }
-
-    fn over_two_scramblers(rt: &impl Abort, image: &mut [u8]) -> Result<(), Fail> {
-        sized(image)?;
-        all_scrambled_twice(rt, lend(image, fresh(), Supply::NoEnd))
-    }
-
     #[test]
     fn memories_agree(rt: HostRuntime) -> Result<(), Fail> {
         let mut image = vec![in rt.alloc(); 0u8; 61056]?;
-        over_the_image(&rt, &mut image)?;
-        over_a_scrambler(&rt, &mut image)?;
-        over_two_scramblers(&rt, &mut image)
+        all(&rt, LentImage::over(&mut image, fresh(), Supply::NoEnd)?)?;
+        let scrambled = Scrambler {
+            below: LentImage::over(&mut image, fresh(), Supply::NoEnd)?,
+            fixed: 0x5A,
+        };
+        all(&rt, scrambled)?;
+        let below = Scrambler {
+            below: LentImage::over(&mut image, fresh(), Supply::NoEnd)?,
+            fixed: 0xC3,
+        };
+        all(&rt, Scrambler { below, fixed: 0x5A })
     }
 
     #[test]
     fn other_sizes_are_refused(rt: HostRuntime) -> Result<(), Fail> {
         for n in [0usize, 61055, 61057] {
-            let image = vec![in rt.alloc(); 0u8; n]?;
+            let mut image = vec![in rt.alloc(); 0u8; n]?;
             answers(&rt, sized(&image), 4);
+            let lent = LentImage::over(&mut image, fresh(), Supply::NoEnd);
+            assert!(rt; matches!(lent, Err(Fault::ImageSize)));
         }
         Ok(())
     }

@@ -1,13 +1,14 @@
 -- Which lists of steps keep to the map, and the steps of a mass erase written out.
-use Rattle.std.proofs.Common.{◌≡◌, ℕ, zero, suc, ◌+◌, ◌<◌, ◌≤◌, true, ◌&&◌, leb, List, [], ◌∷◌, ◌++◌, length, get_or, is_some, Some, None, sym, refl, ap, ◌∙◌, inl, inr, arith}
+use Rattle.std.proofs.Common.{◌≡◌, ℕ, zero, suc, ◌+◌, ◌<◌, ◌≤◌, true, ◌&&◌, leb, List, [], ◌∷◌, ◌++◌, length, is_some, Some, None, Option, sym, refl, ap, ◌∙◌, inl, inr, arith}
+use Rattle.std.specs.List.{flat_map}
 use Rattle.std.proofs.lemmas.List.{append-nil, length-append}
-use Rattle.std.proofs.lemmas.Bool.{and_from, and_parts, cases_Bool, cond-false, cond-true, le-leb, or_left, or_right}
-use Rattle.memory.specs.Areas.{all_areas, first_outside, holds, place, some_holds}
+use Rattle.std.proofs.lemmas.Bool.{and_from, and_parts, cases_Bool, cond-false, cond-true, le-leb}
+use Rattle.memory.specs.Areas.{all_areas, first_outside, place}
 use Rattle.memory.specs.Meaning.{Step, all_in_map, step_in_map}
 use Rattle.memory.specs.Meaning.Step.{set_vector}
-use Rattle.memory.specs.Steps.{blanks, erase_steps, store_up, EraseAsWritten}
+use Rattle.memory.specs.Steps.{blanks, erase_steps, erased, store_up, EraseAsWritten}
 use Rattle.memory.specs.declared.areas.Area.{Area}
-use Rattle.memory.proofs.Places.{in_map}
+use Rattle.memory.proofs.Places.{among, in_map}
 
 pub all_append : (xs ys : List Step) → all_in_map xs ≡ true → all_in_map ys ≡ true → all_in_map (xs ++ ys) ≡ true
 all_append [] ys h k = k
@@ -47,11 +48,16 @@ as_written =
     ap (λ l. set_vector 255 255 ∷ (l ++ (blanks 0x4400 44032 ++ (blanks 0x10000 16384 ++ [])))) (append-nil (blanks 0xFFC0 62))
     ∙ ap (λ l. set_vector 255 255 ∷ (blanks 0xFFC0 62 ++ (blanks 0x4400 44032 ++ l))) (append-nil (blanks 0x10000 16384))
 
--- an address that one of the areas holds
-among : (xs : List Area) (i : ℕ) (d : Area) (a : ℕ) → i < length xs → holds (get_or xs i d) a ≡ true → some_holds xs a ≡ true
-among [] i d a h t = absurd (omega arith)
-among (x ∷ xs) zero d a h t = or_left (holds x a) (some_holds xs a) t
-among (x ∷ xs) (suc i) d a h t = or_right (holds x a) (some_holds xs a) (among xs i d a (omega arith) t)
+-- the areas as a mass erase takes them: table, info, lower, upper
+abbrev area : ℕ → ℕ → Option ℕ → Area
+area f l e = record { first = f; last = l; erase = e }
+
+abbrev pub erase_order : List Area
+erase_order =
+    area 0xFF80 0xFFFF (Some 0xFFC0) ∷ area 0x1800 0x19FF None ∷ area 0x4400 0xEFFF (Some 0x4400) ∷ area 0x10000 0x13FFF (Some 0x10000) ∷ []
+
+pub erase_opened : erase_steps ≡ set_vector 0xFF 0xFF ∷ flat_map erased erase_order
+erase_opened = as_written ∙ ap (λ l. set_vector 255 255 ∷ (blanks 0xFFC0 62 ++ (blanks 0x4400 44032 ++ l))) (sym (append-nil (blanks 0x10000 16384)))
 
 abbrev pub no_area : Area
 no_area = record { first = 0; last = 0; erase = None }

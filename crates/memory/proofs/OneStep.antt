@@ -5,15 +5,11 @@ use Rattle.fault.specs.Checks.{check, then}
 use Rattle.fault.specs.declared.Fault.{Fault}
 use Rattle.fault.specs.declared.Fault.TheVariants.{Dark, OutsideMap}
 use Rattle.memory.specs.Areas.{place}
-use Rattle.memory.specs.Meaning.{Contents, Meaning, Step, after, answer, apply, put_at, read_at, read_of, step_in_map, with_image}
+use Rattle.memory.specs.Meaning.{Contents, Makes, Meaning, Step, after, answer, apply, put_at, read_at, read_of, step_in_map, with_image}
 use Rattle.memory.specs.Meaning.Step.{store}
 use Rattle.memory.specs.Supply.{lit, spent}
 use Rattle.memory.specs.declared.supply.Supply.{Supply}
 use Rattle.memory.proofs.Exits.{check_failed, check_passed}
-
--- a call that makes one step: what it leaves and answers
-abbrev pub Made : Step → Meaning → Meaning → Result (Unit {0}) Fault → Type 0
-Made s m n r = record { after : n ≡ after s m; value : r ≡ answer s m }
 
 -- taking one step off a supply: what it leaves and answers
 abbrev Spent : Supply → Supply → Result (Unit {0}) Fault → Type 0
@@ -21,7 +17,7 @@ Spent u v r = record { after : v ≡ cond (lit u) (spent u) u; value : r ≡ che
 
 module _ (s : Step) (m : Meaning) where
   -- a step outside the map
-  pub outside : (r : Result (Unit {0}) Fault) → r ≡ Err OutsideMap → step_in_map s ≡ false → Made s m m r
+  pub outside : (r : Result (Unit {0}) Fault) → r ≡ Err OutsideMap → step_in_map s ≡ false → Makes s m m r
   unfolding answer after
   outside r e f = record {
     after = sym (cond-false _ _ _ (and_left _ _ f));
@@ -34,13 +30,13 @@ module _ (s : Step) (m : Meaning) where
   in_map_answer f = sym (ap (λ b. then (check b OutsideMap) (check (lit m.supply) Dark)) f)
 
   -- without supply
-  pub dark : step_in_map s ≡ true → lit m.supply ≡ false → Made s m m (Err Dark)
+  pub dark : step_in_map s ≡ true → lit m.supply ≡ false → Makes s m m (Err Dark)
   unfolding after
   dark f l = record { after = sym (cond-false _ _ _ (and_right (step_in_map s) _ l)); value = sym (ap (λ b. check b Dark) l) ∙ in_map_answer f }
 
   -- with supply
   pub made : (c : Contents) (u : Supply) → c ≡ apply s m.contents → u ≡ spent m.supply → step_in_map s ≡ true → lit m.supply ≡ true
-      → Made s m (record { contents = c; supply = u }) (Ok tt)
+      → Makes s m (record { contents = c; supply = u }) (Ok tt)
   unfolding after
   made c u e h f l = record {
     after = ap (λ x. record { contents = x; supply = u }) e ∙ ap (λ x. record { contents = apply s m.contents; supply = x }) h
@@ -50,7 +46,7 @@ module _ (s : Step) (m : Meaning) where
 
   -- a step as code makes it, once the supply is asked
   pub spend_dark : (r : Result (Unit {0}) Fault) (d : Fault) (u : Supply) → r ≡ Err d → step_in_map s ≡ true → Spent m.supply u (Err d)
-      → Made s m (record { contents = m.contents; supply = u }) r
+      → Makes s m (record { contents = m.contents; supply = u }) r
   spend_dark r d u h f e =
       let l = check_failed (lit m.supply) Dark d e.value in
       record {
@@ -59,7 +55,7 @@ module _ (s : Step) (m : Meaning) where
       }
 
   pub spend_made : (c : Contents) (u : Supply) → c ≡ apply s m.contents → step_in_map s ≡ true → Spent m.supply u (Ok tt)
-      → Made s m (record { contents = c; supply = u }) (Ok tt)
+      → Makes s m (record { contents = c; supply = u }) (Ok tt)
   spend_made c u h f e =
       let l = check_passed (lit m.supply) Dark e.value in
       made c u h (e.after ∙ cond-true _ _ _ l) f l

@@ -1,29 +1,15 @@
 -- Places and addresses.
-use Rattle.std.proofs.Common.{◌≡◌, ℕ, suc, ◌+◌, ◌-◌, ◌<◌, ◌≤◌, Bool, true, false, cond, ◌&&◌, ◌||◌, ltb, leb, List, [], ◌∷◌, length, get_or, drop, is_some, IfSome, Some, None, Option, sym, refl, ap, ◌∙◌, inl, inr, arith}
+use Rattle.std.proofs.Common.{◌≡◌, ℕ, zero, suc, ◌+◌, ◌-◌, ◌<◌, ◌≤◌, Bool, true, false, cond, ◌&&◌, ◌||◌, ltb, leb, List, [], ◌∷◌, length, get_or, is_some, IfSome, Some, None, Option, sym, refl, ap, ◌∙◌, inl, inr, arith}
 use Rattle.std.specs.List.{AllByRecursion as All}
-use Rattle.std.proofs.lemmas.List.{at_drop_more, at_drop_all}
-use Rattle.std.proofs.lemmas.Bool.{and_from, and_parts, and_right, cases_Bool, cases_lt, cond-false, cond-true, false≢true, le-leb, le-ltb, leb-true, lt-leb, lt-ltb, or_cases}
+use Rattle.std.proofs.lemmas.Bool.{and_from, and_parts, and_right, cases_Bool, cases_lt, cond-false, cond-true, false≢true, le-leb, le-ltb, leb-true, lt-leb, lt-ltb, or_cases, or_left, or_right}
 use Rattle.memory.specs.declared.areas.Area.{Area}
 use Rattle.memory.specs.Areas.{address_at, address_in, all_areas, first_outside, holds, map_size, place, place_in, size, some_holds, Inverse, VectorPlace, RangeExamples}
 
--- the walk over the areas, at the i-th one
-module _ (xs : List Area) (i base a : ℕ) (d : Area) (h : i < length xs) where
-  open_one : place_in (drop i xs) base a
-      ≡ cond (holds (get_or xs i d) a) (Some (base + (a - (get_or xs i d).first))) (place_in (drop (i + 1) xs) (base + size (get_or xs i d)) a)
-  open_one = at_drop_more (λ ys. place_in ys base a) xs i d h
-
-  pub place_here : holds (get_or xs i d) a ≡ true → place_in (drop i xs) base a ≡ Some (base + (a - (get_or xs i d).first))
-  place_here t = open_one ∙ cond-true _ _ _ t
-
-  pub place_on : (n : ℕ) → n ≡ size (get_or xs i d) → holds (get_or xs i d) a ≡ false
-      → place_in (drop (i + 1) xs) (base + n) a ≡ place_in (drop i xs) base a
-  place_on n e t = ap (λ k. place_in (drop (i + 1) xs) (base + k) a) e ∙ sym (open_one ∙ cond-false _ _ _ t)
-
-  pub holds_first : holds (get_or xs i d) a ≡ true → (get_or xs i d).first ≤ a
-  holds_first t = leb-true _ _ (and_parts _ _ t).0
-
-pub place_none : (xs : List Area) (i base a : ℕ) → length xs ≤ i → place_in (drop i xs) base a ≡ None
-place_none xs i base a h = at_drop_all (λ ys. place_in ys base a) xs i h
+-- an address that one of the areas holds
+pub among : (xs : List Area) (i : ℕ) (d : Area) (a : ℕ) → i < length xs → holds (get_or xs i d) a ≡ true → some_holds xs a ≡ true
+among [] i d a h t = absurd (omega arith)
+among (x ∷ xs) zero d a h t = or_left (holds x a) (some_holds xs a) t
+among (x ∷ xs) (suc i) d a h t = or_right (holds x a) (some_holds xs a) (among xs i d a (omega arith) t)
 
 -- an address has a place where some area holds it
 or_some : (b c : Bool) (o o' : Option ℕ) → is_some o ≡ true → is_some o' ≡ c → is_some (cond b o o') ≡ (b || c)
@@ -134,23 +120,6 @@ in_map a = place_known all_areas 0 a
 pub map_below : (a : ℕ) → is_some (place a) ≡ true → a < 0x14000
 unfolding all_areas
 map_below a e = below_in all_areas a 0x14000 (omega arith, (omega arith, (omega arith, (omega arith, tt)))) (sym (in_map a) ∙ e)
-
--- a walk up a range of n addresses, at the k-th one
-module _ (a n k : ℕ) (h : k < n) where
-  one_left : n - k ≡ suc (n - (k + 1))
-  one_left = omega arith
-
-  pub outside_here : is_some (place a) ≡ false → first_outside a (n - k) ≡ Some a
-  unfolding first_outside
-  outside_here e = ap (first_outside a) one_left ∙ cond-false _ _ _ e
-
-  pub outside_on : is_some (place a) ≡ true → first_outside a (n - k) ≡ first_outside (a + 1) (n - (k + 1))
-  unfolding first_outside
-  outside_on e = ap (first_outside a) one_left ∙ cond-true _ _ _ e
-
-pub outside_none : (a n k : ℕ) → n ≤ k → first_outside a (n - k) ≡ None
-unfolding first_outside
-outside_none a n k h = let z : n - k ≡ 0 = omega arith in ap (first_outside a) z
 
 pub range_examples : RangeExamples
 unfolding first_outside place all_areas

@@ -5,10 +5,9 @@ use Rattle.fault.specs.Checks.{check, then}
 use Rattle.fault.specs.declared.Fault.{Fault}
 use Rattle.fault.specs.declared.Fault.TheVariants.{Dark, OutsideMap}
 use Rattle.memory.specs.Areas.{address_at, map_size, place}
-use Rattle.memory.specs.Meaning.{Contents, Meaning, Step, after, answer, apply, put, put_at, read_at, read_of, step_in_map}
+use Rattle.memory.specs.Meaning.{Contents, Makes, Meaning, Step, after, answer, apply, put, put_at, read_at, read_of, step_in_map}
 use Rattle.memory.specs.Scrambled.{clear, clear_contents, clear_from, clear_meaning, mask}
 use Rattle.memory.specs.Supply.{lit, spent}
-use Rattle.memory.proofs.OneStep.{Made}
 use Rattle.memory.proofs.Places.{address_back, place_within}
 
 -- a byte that is masked twice is clear
@@ -62,7 +61,7 @@ module _ (f : ℕ) (m : Meaning) (s below : Step) (e : step_in_map below ≡ ste
   unfolding answer
   answer_clear = ap (λ b. then (check b OutsideMap) (check (lit m.supply) Dark)) e
 
-  pub through : (n : Meaning) (r : Result (Unit {0}) Fault) → Made below m n r → Made s (clear_meaning f m) (clear_meaning f n) r
+  pub through : (n : Meaning) (r : Result (Unit {0}) Fault) → Makes below m n r → Makes s (clear_meaning f m) (clear_meaning f n) r
   through n r d = record { after = ap (clear_meaning f) d.after ∙ after_clear; value = d.value ∙ answer_clear }
 
 -- what is read through the scrambler

@@ -1,5 +1,7 @@
 -- The held record: firmware version, unfinished mark, two key records.
-use Rattle.std.specs.Prelude.{ℕ, Bool, false, List, [], ◌∷◌, slice_set}
+use Rattle.std.specs.Prelude.{ℕ, Bool, false, List, [], ◌∷◌, Ok, Err, Result, if◌then◌else◌, ◌==◌, slice_set}
+use Rattle.fault.specs.declared.Fault.{Fault}
+use Rattle.fault.specs.declared.Fault.TheVariants.{BadKeyType}
 use Rattle.memory.specs.declared.held.Held.{Held}
 use Rattle.memory.specs.declared.held.KeyRecord.{KeyRecord}
 use Rattle.memory.specs.declared.held.KeySlot.{KeySlot}
@@ -9,6 +11,10 @@ use Rattle.memory.specs.declared.held.KeySlot.TheVariants.{Data, Kek}
 abbrev pub slot_place : KeySlot → ℕ
 slot_place Data = 0
 slot_place Kek = 1
+
+-- the slot of a key type: 0 is the data key, 2 the key-encryption key; any other type is refused
+abbrev pub slot_of : ℕ → Result KeySlot Fault
+slot_of t = if t == 0 then Ok Data else (if t == 2 then Ok Kek else Err (BadKeyType t))
 
 -- the held record with another version and mark
 abbrev pub held_version : ℕ → Bool → Held → Held

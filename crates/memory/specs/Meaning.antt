@@ -1,5 +1,5 @@
 -- What a memory means, what each storing step does to it, and what a list of steps does.
-use Rattle.std.specs.Prelude.{ℕ, zero, suc, Bool, true, false, cond, not, ◌&&◌, List, [], ◌∷◌, is_some, Some, None, Ok, Err, Option, Result, slice_index, slice_set}
+use Rattle.std.specs.Prelude.{◌≡◌, ℕ, zero, suc, Bool, true, false, cond, not, ◌&&◌, List, [], ◌∷◌, is_some, Some, None, Ok, Err, Option, Result, slice_index, slice_set}
 use Rattle.fault.specs.Checks.{check, then}
 use Rattle.fault.specs.declared.Fault.{Fault}
 use Rattle.fault.specs.declared.Fault.TheVariants.{Dark, OutsideMap}
@@ -72,6 +72,10 @@ answer s m = then (check (step_in_map s) OutsideMap) (check (lit m.supply) Dark)
 unfoldable pub after : Step → Meaning → Meaning
 after s m = cond (step_in_map s && lit m.supply) (record { contents = apply s m.contents; supply = spent m.supply }) m
 
+-- a call that makes one step: what it leaves and answers
+abbrev pub Makes : Step → Meaning → Meaning → Result (Unit {0}) Fault → Type 0
+Makes s before n r = record { after : n ≡ after s before; value : r ≡ answer s before }
+
 -- what reading a place answers
 abbrev pub read_at : Option ℕ → List ℕ → Result ℕ Fault
 read_at None xs = Err OutsideMap
@@ -105,6 +109,10 @@ left_by p = record { contents = p.contents; supply = p.supply }
 -- what steps answer
 abbrev pub answer_of : Performed → Result (Unit {0}) Fault
 answer_of p = check (not p.dark) Dark
+
+-- a call that makes steps in order: what it leaves and answers
+abbrev pub Performs : List Step → Meaning → Meaning → Result (Unit {0}) Fault → Type 0
+Performs xs before n r = record { after : n ≡ left_by (performed xs before); value : r ≡ answer_of (performed xs before) }
 
 -- whether all steps keep to the map
 abbrev pub all_in_map : List Step → Bool

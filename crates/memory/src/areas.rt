@@ -1,10 +1,10 @@
 // The map: a constant table of areas, walked to find the place of an address.
 ghost use Rattle.std.specs.Prelude.{◌≡◌, ◌^◌, ◌<◌, ◌≤◌, is_some, IfSome};
-ghost use Rattle.memory.specs.Areas.{holds, size, erase_last, place_in, some_holds, place, range_checked, map_size, Inverse, VectorPlace, RangeExamples};
+ghost use Rattle.memory.specs.Areas.{holds, size, erase_last, place_in, some_holds, place, first_outside, range_checked, map_size, Inverse, VectorPlace, RangeExamples};
 
 use fault::Fault;
 
-#[derive(Clone, Copy)]
+#[derive(Clone, Copy, PartialEq, Eq, Debug)]
 pub struct Area {
     pub first: u32,
     pub last: u32,
@@ -16,7 +16,7 @@ impl Area {
     pub fn holds(&self, address: u32) -> bool
         ensures { result ≡ holds self.now address }
     {
-        self.first <= address && address <= self.last
+        (self.first..=self.last).contains(&address)
     }
 
     pub fn size(&self) -> usize
@@ -38,28 +38,32 @@ impl Area {
     }
 }
 
-pub const AREAS: [Area; 4] = [
-    Area {
-        first: 0x1800,
-        last: 0x19FF,
-        erase: None,
-    },
-    Area {
-        first: 0x4400,
-        last: 0xEFFF,
-        erase: Some(0x4400),
-    },
-    Area {
-        first: 0xFF80,
-        last: 0xFFFF,
-        erase: Some(0xFFC0),
-    },
-    Area {
-        first: 0x10000,
-        last: 0x13FFF,
-        erase: Some(0x10000),
-    },
-];
+pub(crate) const INFO: Area = Area {
+    first: 0x1800,
+    last: 0x19FF,
+    erase: None,
+};
+
+pub(crate) const LOWER: Area = Area {
+    first: 0x4400,
+    last: 0xEFFF,
+    erase: Some(0x4400),
+};
+
+// The vectors, the reset vector among them.
+pub(crate) const TABLE: Area = Area {
+    first: 0xFF80,
+    last: 0xFFFF,
+    erase: Some(0xFFC0),
+};
+
+pub(crate) const UPPER: Area = Area {
+    first: 0x10000,
+    last: 0x13FFF,
+    erase: Some(0x10000),
+};
+
+pub const AREAS: [Area; 4] = [INFO, LOWER, TABLE, UPPER];
 
 // How many bytes the map has.
 pub const MAP_SIZE: usize = 61056;
@@ -74,8 +78,9 @@ pub fn place_in(areas: &[Area; 4], address: u32) -> Option<usize>
     ensures value { result ≡ place_in areas.now 0 address }
     ensures known { is_some result ≡ some_holds areas.now address }
 {
+    // Summed along the walk: a search for the area, and then a sum of the sizes before it, would walk twice.
     let mut base: usize = 0;
-    for area in areas.iter() {
+    for area in areas {
         if area.holds(address) {
             return Some(base + (address - area.first) as usize);
         }
@@ -94,17 +99,23 @@ pub fn place_of(address: u32) -> Option<usize>
     place_in(&AREAS, address)
 }
 
+// The first of `count` addresses upward that is outside the map.
+fn first_outside(address: u32, count: usize) -> Option<u32>
+    ensures { result ≡ first_outside address count }
+{
+    (address..=u32::MAX)
+        .take(count)
+        .find(|at| place_of(*at).is_none())
+}
+
 // Refuses `count` addresses upward at the first that is outside the map.
+#[tactic(auto, using(crate::proofs::Places::range_examples))]
 pub fn check_range(address: u32, count: usize) -> Result<(), Fault>
     ensures value { result ≡ range_checked address count }
     ensures examples { RangeExamples }
 {
-    let mut at = address;
-    for _ in 0..count {
-        if place_of(at).is_none() {
-            return Err(Fault::OutsideArea(at));
-        }
-        at += 1;
+    match first_outside(address, count) {
+        Some(at) => Err(Fault::OutsideArea(at)),
+        None => Ok(()),
     }
-    Ok(())
 }

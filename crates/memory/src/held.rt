@@ -1,21 +1,23 @@
 // The held record: the firmware version, the unfinished mark and the key table.
 ghost use Rattle.std.specs.Prelude.{◌≡◌, ℕ, ◌≢◌, slice_index_or};
-ghost use Rattle.memory.specs.Held.{slot_place, held_key, fresh_held};
+ghost use Rattle.memory.specs.Held.{slot_place, slot_of, held_key, fresh_held};
 
-#[derive(Clone, Copy)]
+use fault::Fault;
+
+#[derive(Clone, Copy, PartialEq, Eq, Debug)]
 pub struct KeyRecord {
     pub key: [u8; 16],
     pub version: u8,
 }
 
 // The data key, or the key-encryption key.
-#[derive(Clone, Copy)]
+#[derive(Clone, Copy, PartialEq, Eq, Debug)]
 pub enum KeySlot {
     Data,
     Kek,
 }
 
-#[derive(Clone, Copy)]
+#[derive(Clone, Copy, PartialEq, Eq, Debug)]
 pub struct Held {
     pub version: u8,
     pub unfinished: bool,
@@ -23,7 +25,7 @@ pub struct Held {
 }
 
 impl KeySlot {
-    // The slot's place in the key table.
+    // The slot's place in the key table; a name says what the number is, which a From would not.
     pub fn place(&self) -> usize
         ensures { result ≡ slot_place self.now }
     {
@@ -34,12 +36,18 @@ impl KeySlot {
     }
 }
 
-impl KeyRecord {
-    // Replaces a record that is lent.
-    fn replace(&mut self, record: KeyRecord)
-        ensures { self.new ≡ «record» }
-    {
-        *self = record;
+// The slot of a key packet's type.
+impl TryFrom<u8> for KeySlot {
+    type Error = Fault;
+
+    ghost try_from_gives = { λ key_type outcome. outcome ≡ slot_of key_type };
+
+    fn try_from(key_type: u8) -> Result<KeySlot, Fault> {
+        match key_type {
+            0 => Ok(KeySlot::Data),
+            2 => Ok(KeySlot::Kek),
+            _ => Err(Fault::BadKeyType(key_type)),
+        }
     }
 }
 
@@ -70,7 +78,6 @@ impl Held {
         ensures version { self.new.version ≡ self.old.version }
         ensures mark { self.new.unfinished ≡ self.old.unfinished }
     {
-        let i = slot.place();
-        self.keys[i].replace(record);
+        self.keys[slot.place()] = record;
     }
 }

@@ -2,7 +2,7 @@
 ghost use Rattle.std.specs.Prelude.{◌≡◌, length, Ok};
 ghost use Rattle.fault.specs.Checks.{then};
 ghost use Rattle.memory.specs.Areas.{map_size};
-ghost use Rattle.memory.specs.Meaning.{Meaning, read_of, answer, after, with_supply};
+ghost use Rattle.memory.specs.Meaning.{Makes, Meaning, read_of, answer, after, with_supply};
 ghost use Rattle.memory.specs.Meaning.Step.{store, set_vector, set_version, set_key};
 ghost use Rattle.memory.specs.Laws.{StoredBack};
 
@@ -30,23 +30,19 @@ pub trait Memory {
 
     // The storing steps: one byte,
     fn store(&mut self, address: u32, value: u8) -> Result<(), Fault>
-        ensures after { meaning self.new ≡ after (store address value) (meaning self.old) }
-        ensures value { result ≡ answer (store address value) (meaning self.old) };
+        ensures { Makes (store address value) (meaning self.old) (meaning self.new) result };
 
     // both bytes of the reset vector,
     fn set_vector(&mut self, low: u8, high: u8) -> Result<(), Fault>
-        ensures after { meaning self.new ≡ after (set_vector low high) (meaning self.old) }
-        ensures value { result ≡ answer (set_vector low high) (meaning self.old) };
+        ensures { Makes (set_vector low high) (meaning self.old) (meaning self.new) result };
 
     // version and mark together,
     fn set_version(&mut self, number: u8, unfinished: bool) -> Result<(), Fault>
-        ensures after { meaning self.new ≡ after (set_version number unfinished) (meaning self.old) }
-        ensures value { result ≡ answer (set_version number unfinished) (meaning self.old) };
+        ensures { Makes (set_version number unfinished) (meaning self.old) (meaning self.new) result };
 
     // one key with its version.
     fn set_key(&mut self, slot: KeySlot, record: KeyRecord) -> Result<(), Fault>
-        ensures after { meaning self.new ≡ after (set_key slot «record») (meaning self.old) }
-        ensures value { result ≡ answer (set_key slot «record») (meaning self.old) };
+        ensures { Makes (set_key slot «record») (meaning self.old) (meaning self.new) result };
 
     fn set_supply(&mut self, supply: Supply)
         ensures after { meaning self.new ≡ with_supply supply (meaning self.old) };

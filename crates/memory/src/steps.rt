@@ -1,23 +1,19 @@
 // Loops of storing steps over any memory: bytes stored upward, and the mass erase.
-ghost use Rattle.std.specs.Prelude.{◌≡◌, ◌+◌, ◌-◌, true, length};
-ghost use Rattle.std.specs.List.{flat_map};
-ghost use Rattle.memory.specs.Meaning.{all_in_map, answer_of, left_by, performed};
-ghost use Rattle.memory.specs.Steps.{blanks, data_answer, data_left, erase_steps, round, store_up, EraseAsWritten};
+ghost use Rattle.std.specs.Prelude.{◌≡◌, true, length};
+ghost use Rattle.memory.specs.Meaning.{Performs, all_in_map};
+ghost use Rattle.memory.specs.Steps.{data_answer, data_left, erase_steps, erased, store_up, EraseAsWritten};
 
-use crate::areas::{AREAS, Area, VECTOR_LOW, check_range};
+use crate::areas::{Area, INFO, LOWER, TABLE, UPPER, check_range};
 use crate::memory::Memory;
 use fault::Fault;
 
 // Stores the bytes upward from an address, all of them at addresses of the map.
 fn store_up<M: Memory>(memory: &mut M, address: u32, bytes: &[u8]) -> Result<(), Fault>
     requires { all_in_map (store_up address bytes.now) ≡ true }
-    ensures after { M.meaning memory.new ≡ left_by (performed (store_up address bytes.now) (M.meaning memory.old)) }
-    ensures value { result ≡ answer_of (performed (store_up address bytes.now) (M.meaning memory.old)) }
+    ensures { Performs (store_up address bytes.now) (M.meaning memory.old) (M.meaning memory.new) result }
 {
-    let mut at = address;
-    for b in bytes {
-        memory.store(at, *b)?;
-        at += 1;
+    for (at, byte) in (address..).zip(bytes) {
+        memory.store(at, *byte)?;
     }
     Ok(())
 }
@@ -31,53 +27,29 @@ pub fn store_data<M: Memory>(memory: &mut M, address: u32, bytes: &[u8]) -> Resu
     store_up(memory, address, bytes)
 }
 
-// Blanks the addresses from `first` to `last`, all of them of the map.
-fn blank_up<M: Memory>(memory: &mut M, first: u32, last: u32) -> Result<(), Fault>
-    requires { all_in_map (blanks first ((last + 1) - first)) ≡ true }
-    ensures after { M.meaning memory.new ≡ left_by (performed (blanks first ((last + 1) - first)) (M.meaning memory.old)) }
-    ensures value { result ≡ answer_of (performed (blanks first ((last + 1) - first)) (M.meaning memory.old)) }
+// Blanks what is erased of an area. A loop of its own: one over any iterator, for stored bytes too, would need a contract that says what the
+// iterator gives.
+fn erase_area<M: Memory>(memory: &mut M, area: &Area) -> Result<(), Fault>
+    requires { all_in_map (erased area.now) ≡ true }
+    ensures { Performs (erased area.now) (M.meaning memory.old) (M.meaning memory.new) result }
 {
-    for address in u64::from(first)..u64::from(last) + 1 {
-        memory.store(address as u32, 0xFF)?;
-    }
-    Ok(())
-}
-
-// Blanks what is erased of an area, if it is of the round: of what holds the vector, or of the rest.
-fn erase_area<M: Memory>(memory: &mut M, area: &Area, vector: bool) -> Result<(), Fault>
-    requires { all_in_map (round vector area.now) ≡ true }
-    ensures after { M.meaning memory.new ≡ left_by (performed (round vector area.now) (M.meaning memory.old)) }
-    ensures value { result ≡ answer_of (performed (round vector area.now) (M.meaning memory.old)) }
-{
-    if area.holds(VECTOR_LOW) != vector {
-        return Ok(());
-    }
-    match area.erase {
-        None => Ok(()),
-        Some(first) => blank_up(memory, first, area.erase_last()),
-    }
-}
-
-// One round over the areas, in their order.
-fn erase_round<M: Memory>(memory: &mut M, areas: &[Area; 4], vector: bool) -> Result<(), Fault>
-    requires { all_in_map (flat_map (round vector) areas.now) ≡ true }
-    ensures after { M.meaning memory.new ≡ left_by (performed (flat_map (round vector) areas.now) (M.meaning memory.old)) }
-    ensures value { result ≡ answer_of (performed (flat_map (round vector) areas.now) (M.meaning memory.old)) }
-{
-    for area in areas.iter() {
-        erase_area(memory, area, vector)?;
+    if let Some(first) = area.erase {
+        for address in first..=area.erase_last() {
+            memory.store(address, 0xFF)?;
+        }
     }
     Ok(())
 }
 
 // Blanks the vector, then the rest of its area, then the other areas.
 pub fn mass_erase<M: Memory>(memory: &mut M) -> Result<(), Fault>
-    ensures after { M.meaning memory.new ≡ left_by (performed erase_steps (M.meaning memory.old)) }
-    ensures value { result ≡ answer_of (performed erase_steps (M.meaning memory.old)) }
+    ensures made { Performs erase_steps (M.meaning memory.old) (M.meaning memory.new) result }
     ensures written { EraseAsWritten }
     ensures count { length erase_steps ≡ 60479 }
 {
     memory.set_vector(0xFF, 0xFF)?;
-    erase_round(memory, &AREAS, true)?;
-    erase_round(memory, &AREAS, false)
+    for area in [TABLE, INFO, LOWER, UPPER] {
+        erase_area(memory, &area)?;
+    }
+    Ok(())
 }

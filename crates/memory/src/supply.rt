@@ -6,7 +6,8 @@ ghost use Rattle.memory.specs.Supply.{lit, spent};
 
 use fault::Fault;
 
-#[derive(Clone, Copy)]
+// An enum of its own, since None of an Option<u32> would read as no supply.
+#[derive(Clone, Copy, PartialEq, Eq, Debug)]
 pub enum Supply {
     NoEnd,
     Steps(u32),

@@ -1,10 +1,12 @@
 // What the arguments ask for. The first malformed one is named.
-ghost use Rattle.std.specs.Prelude.{◌≡◌};
-ghost use Rattle.text.specs.Decimal.{decimal_read};
+ghost use Rattle.std.specs.Prelude.{◌≡◌, IfErr};
+ghost use Rattle.std.specs.Result.{result_ok};
 ghost use Rattle.pack.specs.Arguments.{mode_read, data_read, key_read};
+ghost use Rattle.pack.specs.declared.usage.Argument.TheVariants.{Cipher};
 
 use crate::usage::Argument;
 use std::fmt;
+use std::str::FromStr;
 use text::decimal::decimal;
 use text::hex::{hex_block, hex_number};
 
@@ -20,6 +22,20 @@ impl fmt::Display for Mode {
             Mode::Ccm => "AES-128 CCM",
             Mode::Gcm => "AES-128 GCM",
         })
+    }
+}
+
+impl FromStr for Mode {
+    type Err = Argument;
+
+    ghost from_str_gives = { λ word r. (result_ok r ≡ mode_read word) × IfErr r (λ e. e ≡ Cipher) };
+
+    fn from_str(word: &str) -> Result<Self, Argument> {
+        match word {
+            "ccm" => Ok(Mode::Ccm),
+            "gcm" => Ok(Mode::Gcm),
+            _ => Err(Argument::Cipher),
+        }
     }
 }
 
@@ -45,34 +61,6 @@ pub struct KeyArguments {
     pub key: [u8; 16],
 }
 
-fn mode_of(word: &str) -> Option<Mode>
-    ensures { result ≡ mode_read word.now }
-{
-    match word {
-        "ccm" => Some(Mode::Ccm),
-        "gcm" => Some(Mode::Gcm),
-        _ => None,
-    }
-}
-
-fn byte_of(word: &str) -> Option<u8>
-    ensures { result ≡ decimal_read 255 word.now }
-{
-    match decimal(word.as_bytes(), 255) {
-        Some(n) => Some(n as u8),
-        None => None,
-    }
-}
-
-fn word_of(text: &str) -> Option<u16>
-    ensures { result ≡ decimal_read 65535 text.now }
-{
-    match decimal(text.as_bytes(), 65535) {
-        Some(n) => Some(n as u16),
-        None => None,
-    }
-}
-
 // The arguments of a data packet, but for its data.
 pub fn data_arguments(
     cipher: &str,
@@ -86,12 +74,12 @@ pub fn data_arguments(
     ensures { result ≡ data_read cipher.now key.now iv.now ver.now pn.now np.now address.now }
 {
     Ok(DataArguments {
-        mode: mode_of(cipher).ok_or(Argument::Cipher)?,
+        mode: cipher.parse()?,
         key: hex_block(key.as_bytes()).ok_or(Argument::Key)?,
         iv: hex_block(iv.as_bytes()).ok_or(Argument::Iv)?,
-        version: byte_of(ver).ok_or(Argument::Ver)?,
-        number: word_of(pn).ok_or(Argument::Pn)?,
-        count: word_of(np).ok_or(Argument::Np)?,
+        version: decimal(ver.as_bytes(), 255).ok_or(Argument::Ver)? as u8,
+        number: decimal(pn.as_bytes(), 65535).ok_or(Argument::Pn)? as u16,
+        count: decimal(np.as_bytes(), 65535).ok_or(Argument::Np)? as u16,
         address: hex_number(address.as_bytes()).ok_or(Argument::Address)?,
     })
 }
@@ -108,11 +96,11 @@ pub fn key_arguments(
     ensures { result ≡ key_read cipher.now kek.now iv.now kt.now kv.now key.now }
 {
     Ok(KeyArguments {
-        mode: mode_of(cipher).ok_or(Argument::Cipher)?,
+        mode: cipher.parse()?,
         kek: hex_block(kek.as_bytes()).ok_or(Argument::Kek)?,
         iv: hex_block(iv.as_bytes()).ok_or(Argument::Iv)?,
-        kind: byte_of(kt).ok_or(Argument::Kt)?,
-        version: byte_of(kv).ok_or(Argument::Kv)?,
+        kind: decimal(kt.as_bytes(), 255).ok_or(Argument::Kt)? as u8,
+        version: decimal(kv.as_bytes(), 255).ok_or(Argument::Kv)? as u8,
         key: hex_block(key.as_bytes()).ok_or(Argument::Key)?,
     })
 }

@@ -1,7 +1,7 @@
 -- Bytes laid one behind another in the middle of a buffer.
 use Rattle.std.proofs.Common.{◌≡◌, ℕ, ◌+◌, ◌-◌, ◌<◌, ◌≤◌, List, [], ◌∷◌, ◌++◌, length, take, drop, set, sym, refl, ap, ◌∙◌, ap₂, add-one, arith, length-append, length-drop, length-take}
 use borrow.Rule.Slice.PartMut.{put_mid}
-use Rattle.std.proofs.lemmas.List.{append_assoc, drop-drop, length-set, set_split}
+use Rattle.std.proofs.lemmas.List.{append_assoc, drop-drop, set_split}
 use Rattle.std.proofs.lemmas.Slice.{take-put_mid, drop-put_mid, between-put_mid}
 use Rattle.wire.specs.Frame.{over}
 
@@ -36,9 +36,3 @@ put_at a n xs p e h =
 -- a frame laid over what it goes around
 pub over_put : (f xs p : List ℕ) (a : ℕ) → a + length p ≤ length f → a ≤ length xs → over f (put a xs p) ≡ over f xs
 over_put f xs p a h k = ap (λ t. f ++ t) (drop-put_mid a (length p) xs p (length f) h k refl)
-
-pub put_two : (xs : List ℕ) (i v w : ℕ) → i + 1 < length xs → set (set xs i v) (i + 1) w ≡ put i xs (v ∷ w ∷ [])
-put_two xs i v w h =
-    let l : i + 1 < length (set xs i v) = simp length-set (omega arith) in
-    put_one (set xs i v) (i + 1) w l ∙ ap (λ x. put_mid (i + 1) 1 x (w ∷ [])) (put_one xs i v (omega arith))
-    ∙ put_next i (i + 1) 1 xs (v ∷ []) (w ∷ []) refl refl (omega arith)

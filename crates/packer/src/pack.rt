@@ -47,7 +47,7 @@ pub fn pack_data<C: PacketCipher>(
     ensures back { IfOk result (OpensTo C.PacketCipher.cipher key.now iv.now (data_contents packet.now) out.new) }
 {
     let n = packet.bytes.len();
-    if n < 1 || n > 256 {
+    if !matches!(n, 1..=256) {
         return Err(Fault::DataCount);
     }
     if packet.address > 0xFFFFFF {
@@ -77,8 +77,6 @@ pub fn pack_key<C: PacketCipher>(
     if out.len() < 56 {
         return Err(Fault::OutputShort);
     }
-    out[20] = packet.kind;
-    out[21] = packet.version;
-    out[22..38].copy_from_slice(&packet.key);
+    out[20..38].copy_from_slice(&packet.contents());
     sealed_frame::<C>(KEY_COMMAND, kek, iv, 18, out)
 }

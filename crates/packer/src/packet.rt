@@ -1,6 +1,6 @@
 // What a packet says, before it is sealed.
 ghost use Rattle.std.specs.Prelude.{◌≡◌};
-ghost use Rattle.packer.specs.Packets.{data_header};
+ghost use Rattle.packer.specs.Packets.{data_header, key_contents};
 
 // Part `number` of the `count` packets of an update: bytes that are stored from an address on.
 #[derive(Clone, Copy)]
@@ -35,10 +35,23 @@ impl DataPacket<'_> {
     }
 }
 
-// A key with its version. Type 0 is the data key, type 2 the key-encryption key.
+// A key with its version. Type 0 is the data key, type 2 the key-encryption key; the type is a byte, since any can be packed.
 #[derive(Clone, Copy)]
 pub struct KeyPacket {
     pub kind: u8,
     pub version: u8,
     pub key: [u8; 16],
+}
+
+impl KeyPacket {
+    // What is sealed: KT, KV, the key.
+    pub fn contents(&self) -> [u8; 18]
+        ensures { result ≡ key_contents self.now }
+    {
+        let mut contents = [0; 18];
+        contents[0] = self.kind;
+        contents[1] = self.version;
+        contents[2..].copy_from_slice(&self.key);
+        contents
+    }
 }

@@ -15,7 +15,8 @@ use Rattle.cipher.specs.Cipher.{Cipher}
 use Rattle.rules.specs.Board.{run, State, Call, Outcome, erases, stores, rekeys, Packet, KeyPacket, call, step, enact}
 use Rattle.rules.specs.Board.{carry_out, ended, data_steps, opening_steps, closing_steps, session_after, key_steps, history, slot}
 use Rattle.rules.specs.declared.Session.TheVariants.{Closed as closed}
-use Rattle.rules.proofs.Steps.{supply_cases, performed_all, applied_packet, written, packet_steps, dark_packet, dark_opening}
+use Rattle.memory.proofs.Performs.{perform_all}
+use Rattle.rules.proofs.Steps.{supply_cases, applied_packet, written, packet_steps, dark_packet, dark_opening}
 use Rattle.rules.proofs.Steps.{opening_none, image_long, erase_held, erase_none, erase_blanks, Blanked}
 
 -- a history that splits comes of a list of events that splits
@@ -96,12 +97,12 @@ module _ (s : State) (p : Packet) where
         | inr n ↦
             by_dark true _ _ _ q (λ _. n)
             (λ d. dark_opening p.address p.bytes p.ver (eqb p.pn p.np) s.supply s.contents d n)
-            (λ d. performed_all (steps true) s.supply s.contents d ∙ applied_packet p.address p.bytes p.ver true (eqb p.pn p.np) s.contents)
+            (λ d. perform_all (steps true) s.supply s.contents d ∙ applied_packet p.address p.bytes p.ver true (eqb p.pn p.np) s.contents)
       ]
   by_opening false q =
       by_dark false _ _ _ q (λ e. absurd (eqb-false _ _ q e))
       (λ d. dark_packet p.address p.bytes p.ver (eqb p.pn p.np) s.supply s.contents d)
-      (λ d. performed_all (steps false) s.supply s.contents d ∙ applied_packet p.address p.bytes p.ver false (eqb p.pn p.np) s.contents)
+      (λ d. perform_all (steps false) s.supply s.contents d ∙ applied_packet p.address p.bytes p.ver false (eqb p.pn p.np) s.contents)
 
   pub stored : Stored s p (enact (stores p) s)
   unfolding enact carry_out data_steps opening_steps closing_steps

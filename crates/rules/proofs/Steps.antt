@@ -1,6 +1,5 @@
 -- What lists of storing steps do to the contents, wherever the power fails.
-use Rattle.std.proofs.Common.{◌≡◌, ℕ, zero, suc, ◌+◌, Bool, true, false, cond, ◌⊎◌, List, [], ◌∷◌, ◌++◌, length, get_or, set, Some, None, Option, refl, ap, ◌∙◌, inl, inr, true≢false, arith, length-set}
-use mathlib.Core.Bool.{false≢true}
+use Rattle.std.proofs.Common.{◌≡◌, ℕ, zero, suc, ◌+◌, Bool, true, false, cond, ◌⊎◌, List, [], ◌∷◌, ◌++◌, length, get_or, set, Some, None, Option, refl, ap, ◌∙◌, inl, inr, arith, length-set}
 use Rattle.std.proofs.lemmas.List.{get_or-set_same}
 use Rattle.std.proofs.lemmas.Bool.{and_from, eq-eqb}
 use Rattle.memory.specs.declared.held.Held.{Held}
@@ -14,6 +13,7 @@ use Rattle.rules.specs.Memory.{at_place, lay, blank}
 use Rattle.memory.specs.Areas.{map_size}
 use Rattle.memory.specs.Areas.{place, all_areas}
 use Rattle.std.specs.List.{flat_map}
+use Rattle.memory.proofs.Performs.{Keeps, applied, perform_dark, perform_keeps}
 use Rattle.memory.proofs.Places.{vector_place}
 use Rattle.rules.specs.Words.{Each}
 
@@ -21,10 +21,6 @@ pub supply_cases : (u : Supply) → (u ≡ Steps 0) ⊎ (u ≡ Steps 0 → ⊥)
 supply_cases NoEnd = inr (λ e. let z : ◌≡◌ {A = ℕ} 0 1 = cc in omega arith)
 supply_cases (Steps zero) = inl refl
 supply_cases (Steps (suc n)) = inr (λ e. let z : suc n ≡ 0 = cc in omega arith)
-
--- a step keeps what P says
-abbrev pub Keeps : (Contents → Type 0) → Step → Type 0
-Keeps P x = (c : Contents) → P c → P (apply x c)
 
 each_append : (P : Step → Type 0) (xs ys : List Step) → Each P xs → Each P ys → Each P (xs ++ ys)
 each_append P [] ys h k = k
@@ -34,20 +30,13 @@ each_step : (P : Step → Type 0) → ((x : Step) → P x) → (xs : List Step) 
 each_step P h [] = tt
 each_step P h (x ∷ xs) = (h x, each_step P h xs)
 
-pub performed_keeps : (P : Contents → Type 0) (xs : List Step) → Each (Keeps P) xs → (u : Supply) (c : Contents) → P c → P (perform xs u c).contents
-unfolding perform
-performed_keeps P [] h u c p = p
-performed_keeps P (x ∷ xs) h NoEnd c p = performed_keeps P xs h.1 NoEnd (apply x c) (h.0 c p)
-performed_keeps P (x ∷ xs) h (Steps zero) c p = p
-performed_keeps P (x ∷ xs) h (Steps (suc n)) c p = performed_keeps P xs h.1 (Steps n) (apply x c) (h.0 c p)
-
 -- the first step is made, unless the supply is 0
 pub performed_first : (P : Contents → Type 0) (x : Step) (xs : List Step) → Each (Keeps P) xs → (u : Supply) (c : Contents) → (u ≡ Steps 0 → ⊥) → P (apply x c)
     → P (perform (x ∷ xs) u c).contents
 unfolding perform
-performed_first P x xs h NoEnd c n p = performed_keeps P xs h NoEnd (apply x c) p
+performed_first P x xs h NoEnd c n p = perform_keeps P xs h NoEnd (apply x c) p
 performed_first P x xs h (Steps zero) c n p = absurd (n refl)
-performed_first P x xs h (Steps (suc k)) c n p = performed_keeps P xs h (Steps k) (apply x c) p
+performed_first P x xs h (Steps (suc k)) c n p = perform_keeps P xs h (Steps k) (apply x c) p
 
 -- at supply 0 no step is made
 pub performed_none : (x : Step) (xs : List Step) (u : Supply) (c : Contents) → u ≡ Steps 0 → ((perform (x ∷ xs) u c).contents ≡ c) × ((perform (x ∷ xs) u c).dark ≡ true)
@@ -55,29 +44,6 @@ unfolding perform
 performed_none x xs NoEnd c e = let z : ◌≡◌ {A = ℕ} 0 1 = cc in absurd (omega arith)
 performed_none x xs (Steps zero) c e = (refl, refl)
 performed_none x xs (Steps (suc k)) c e = let z : suc k ≡ 0 = cc in absurd (omega arith)
-
--- gone dark, the last step was not made
-pub performed_dark : (P : Contents → Type 0) (xs : List Step) (y : Step) → Each (Keeps P) xs → (u : Supply) (c : Contents) → (perform (xs ++ y ∷ []) u c).dark ≡ true → P c
-    → P (perform (xs ++ y ∷ []) u c).contents
-unfolding perform
-performed_dark P [] y h NoEnd c d p = absurd (false≢true d)
-performed_dark P [] y h (Steps zero) c d p = p
-performed_dark P [] y h (Steps (suc n)) c d p = absurd (false≢true d)
-performed_dark P (x ∷ xs) y h NoEnd c d p = performed_dark P xs y h.1 NoEnd (apply x c) d (h.0 c p)
-performed_dark P (x ∷ xs) y h (Steps zero) c d p = p
-performed_dark P (x ∷ xs) y h (Steps (suc n)) c d p = performed_dark P xs y h.1 (Steps n) (apply x c) d (h.0 c p)
-
--- all steps made
-unfoldable pub applied : List Step → Contents → Contents
-applied [] c = c
-applied (x ∷ xs) c = applied xs (apply x c)
-
-pub performed_all : (xs : List Step) (u : Supply) (c : Contents) → (perform xs u c).dark ≡ false → (perform xs u c).contents ≡ applied xs c
-unfolding perform applied
-performed_all [] u c d = refl
-performed_all (x ∷ xs) NoEnd c d = performed_all xs NoEnd (apply x c) d
-performed_all (x ∷ xs) (Steps zero) c d = absurd (true≢false d)
-performed_all (x ∷ xs) (Steps (suc n)) c d = performed_all xs (Steps n) (apply x c) d
 
 applied_append : (xs ys : List Step) (c : Contents) → applied (xs ++ ys) c ≡ applied ys (applied xs c)
 unfolding applied
@@ -119,8 +85,8 @@ module _ (ad : ℕ) (bs : List ℕ) (v : ℕ) where
 
   -- gone dark, the closing step was not made
   dark_tail : (b : Bool) (u : Supply) (c : Contents) → (perform (tail b) u c).dark ≡ true → (perform (tail b) u c).contents.held ≡ c.held
-  dark_tail true u c d = performed_dark (λ x. x.held ≡ c.held) (store_up ad bs) (set_version v false) (stores_keep_held c.held ad bs) u c d refl
-  dark_tail false u c d = performed_keeps (λ x. x.held ≡ c.held) (store_up ad bs ++ []) (each_append _ (store_up ad bs) [] (stores_keep_held c.held ad bs) tt) u c refl
+  dark_tail true u c d = perform_dark (λ x. x.held ≡ c.held) (store_up ad bs) (set_version v false) (stores_keep_held c.held ad bs) u c d refl
+  dark_tail false u c d = perform_keeps (λ x. x.held ≡ c.held) (store_up ad bs ++ []) (each_append _ (store_up ad bs) [] (stores_keep_held c.held ad bs) tt) u c refl
 
   pub dark_packet : (b : Bool) (u : Supply) (c : Contents) → (perform (packet_steps false b) u c).dark ≡ true → (perform (packet_steps false b) u c).contents.held ≡ c.held
   dark_packet b u c d = dark_tail b u c d
@@ -154,10 +120,10 @@ table_kept n (set_version v m) c e = e
 table_kept n (set_key i k) c e = length-set c.held.keys (slot_place i) k ∙ e
 
 pub image_long : (n : ℕ) (xs : List Step) (u : Supply) (c : Contents) → length c.image ≡ n → length (perform xs u c).contents.image ≡ n
-image_long n xs u c e = performed_keeps (λ x. length x.image ≡ n) xs (each_step _ (length_kept n) xs) u c e
+image_long n xs u c e = perform_keeps (λ x. length x.image ≡ n) xs (each_step _ (length_kept n) xs) u c e
 
 pub table_long : (n : ℕ) (xs : List Step) (u : Supply) (c : Contents) → length c.held.keys ≡ n → length (perform xs u c).contents.held.keys ≡ n
-table_long n xs u c e = performed_keeps (λ x. length x.held.keys ≡ n) xs (each_step _ (table_kept n) xs) u c e
+table_long n xs u c e = perform_keeps (λ x. length x.held.keys ≡ n) xs (each_step _ (table_kept n) xs) u c e
 
 -- Mass erase.
 fill_kept : (P : Contents → Type 0) → ((a : ℕ) → Keeps P (store a 0xFF)) → (n a : ℕ) → Each (Keeps P) (blanks a n)
@@ -178,7 +144,7 @@ rest_kept P h =
 -- the held record stays
 pub erase_held : (u : Supply) (c : Contents) → (perform erase_steps u c).contents.held ≡ c.held
 unfolding erase_steps
-erase_held u c = performed_keeps (λ x. x.held ≡ c.held) erase_steps ((λ x e. e), rest_kept (λ x. x.held ≡ c.held) (λ a x e. e)) u c refl
+erase_held u c = perform_keeps (λ x. x.held ≡ c.held) erase_steps ((λ x e. e), rest_kept (λ x. x.held ≡ c.held) (λ a x e. e)) u c refl
 
 pub erase_none : (u : Supply) (c : Contents) → u ≡ Steps 0 → ((perform erase_steps u c).contents ≡ c) × ((perform erase_steps u c).dark ≡ true)
 unfolding erase_steps

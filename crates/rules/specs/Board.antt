@@ -1,5 +1,5 @@
 -- The board as a state machine: what a call hears, decides and does, and the history of a list of calls.
-use Rattle.std.specs.Prelude.{ℕ, suc, ◌+◌, ◌*◌, Bool, true, false, cond, not, ◌&&◌, ◌||◌, List, [], ◌∷◌, ◌++◌, length, drop, Some, None, Ok, Err, Option, Result, ◌==◌, nat_le, nat_lt, slice_index}
+use Rattle.std.specs.Prelude.{ℕ, suc, ◌+◌, ◌*◌, Bool, true, false, cond, not, ◌&&◌, ◌||◌, List, [], ◌∷◌, ◌++◌, codes, length, drop, Some, None, Ok, Err, Option, Result, ◌==◌, nat_le, nat_lt, slice_index}
 use Rattle.fault.specs.Checks.{check, then}
 use Rattle.fault.specs.declared.Fault.{Fault}
 use Rattle.fault.specs.declared.Fault.TheVariants.{ReplyShort, WorkShort, Dark, UnknownCommand, PacketLength, NotOpened}
@@ -218,6 +218,12 @@ abbrev pub boot_number : Boot → ℕ
 boot_number Application = 1
 boot_number Blank = 2
 boot_number Unfinished = 3
+
+-- the same in words
+abbrev pub boot_text : Boot → List ℕ
+boot_text Application = codes "there is an application to start"
+boot_text Blank = codes "there is no application"
+boot_text Unfinished = codes "an update is unfinished"
 
 -- what a call does, by what it hears
 unfoldable pub respond : Cipher → State → Heard → Deed

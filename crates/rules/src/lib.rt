@@ -1,9 +1,9 @@
 // The rules of the board as a state machine, the three promises on whole runs, and laws that show what the words of the rules say.
 #![tactic(auto)]
 
-ghost use Rattle.std.specs.Prelude.{◌≡◌};
+ghost use Rattle.std.specs.Prelude.{◌≡◌, Some};
 ghost use Rattle.rules.specs.Arrival.{FramesArrive};
-ghost use Rattle.rules.specs.Board.{boot_number};
+ghost use Rattle.rules.specs.Board.{boot_number, boot_text};
 ghost use Rattle.rules.specs.Examples.{SameVersion};
 ghost use Rattle.rules.specs.Instances.{RunsExist};
 ghost use Rattle.rules.specs.Laws.{DarkWhenSpent, EachCallHasItsRefusals, PacketsAreOneList, PassingShows, RefusalsChangeNothing, TurnedAwayUnchanged};
@@ -11,9 +11,10 @@ ghost use Rattle.rules.specs.Memory.{DataIsLaid};
 ghost use Rattle.rules.specs.Promises.{AnswersTellNothing, NoPacketIsTakenTwice, UpdatesAreWhole};
 
 use memory::Supply;
+use std::fmt;
 
 // What a boot question answers: an application to start, a blank reset vector, or an unfinished update.
-#[derive(Clone, Copy)]
+#[derive(Clone, Copy, PartialEq, Eq, Debug)]
 pub enum Boot {
     Application,
     Blank,
@@ -33,15 +34,27 @@ impl Boot {
     }
 }
 
+impl fmt::Display for Boot {
+    ghost output = { λ boot. Some (boot_text boot) };
+
+    fn fmt<W: fmt::Write>(&self, f: &mut fmt::Formatter<W>) -> fmt::Result {
+        f.write_str(match self {
+            Boot::Application => "there is an application to start",
+            Boot::Blank => "there is no application",
+            Boot::Unfinished => "an update is unfinished",
+        })
+    }
+}
+
 // No update is under way, or one that expects a packet number, of so many packets.
-#[derive(Clone, Copy)]
+#[derive(Clone, Copy, PartialEq, Eq, Debug)]
 pub enum Session {
     Closed,
     Expects(u16, u16),
 }
 
 // What a call gives to the board.
-#[derive(Clone, Copy)]
+#[derive(Clone, Copy, PartialEq, Eq, Debug)]
 pub enum Event {
     // A byte, with the lengths of the reply and the work buffer.
     Byte(u8, usize, usize),
@@ -52,7 +65,7 @@ pub enum Event {
 }
 
 // What a core command asks for, by its first byte and its length.
-#[derive(Clone, Copy)]
+#[derive(Clone, Copy, PartialEq, Eq, Debug)]
 pub enum Command {
     MassErase,
     Version,

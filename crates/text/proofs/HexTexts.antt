@@ -1,25 +1,17 @@
 -- The text of bytes, one byte at a time.
-use Rattle.std.proofs.Common.{◌≡◌, ℕ, ◌+◌, ◌/◌, ◌%◌, ◌<◌, ltb, List, [], ◌∷◌, ◌++◌, length, get_or, take, sym, ap, ◌∙◌, ap₂, arith}
-use lib.Utf8.{encode}
-use Rattle.std.specs.Fmt.{HasWritten}
+use Rattle.std.proofs.Common.{◌≡◌, ℕ, ◌+◌, ◌-◌, ◌^◌, ◌<◌, true, false, Some, Option, List, [], ◌∷◌, ◌++◌, length, get_or, take, sym, ap, ◌∙◌, arith}
+use Rattle.std.specs.Fmt.{HasWritten, digits, format_spec, padded_integral}
+use Rattle.std.specs.Option.{option_map}
 use Rattle.std.specs.declared.fmt.Formatter.{Formatter}
 use Rattle.std.proofs.Output.{has_written_of_eq, has_written_append}
-use Rattle.std.proofs.lemmas.Str.Ascii.{encode_ascii}
+use Rattle.std.proofs.lemmas.Fmt.{hex_byte}
 use Rattle.std.proofs.lemmas.List.{append_assoc, append-nil, length-take-le, take_more}
-use Rattle.std.proofs.lemmas.Bool.{cond_both, ltb-true}
-use Rattle.text.specs.Lines.{capital, hex_lines, lines_from, pair_text, separator}
+use Rattle.text.specs.Lines.{hex_lines, lines_from, pair_text, separator}
 
--- a digit is one byte of text
-encode_capital : (d c : ℕ) → d < 16 → c ≡ capital d → encode c ≡ capital d ∷ []
-encode_capital d c h e =
-    ap encode e ∙ encode_ascii (capital d) (cond_both (ltb d 10) _ _ (λ x. x < 128) (λ t. omega (arith, ltb-true d 10 t)) (λ t. omega arith))
-
--- the two digits of a byte
-pub pair_put : {W : Type 0} (took : W → List ℕ → W → Type 0) (f g h : Formatter W) (b x y : ℕ) → b < 256 → x ≡ capital (b / 16) → y ≡ capital (b % 16)
-    → HasWritten took f (encode x) g → HasWritten took g (encode y) h → HasWritten took f (pair_text b) h
-pair_put took f g h b x y l p q r s =
-    has_written_of_eq took f _ _ h (ap₂ (λ xs ys. xs ++ ys) (encode_capital (b / 16) x (omega arith) p) (encode_capital (b % 16) y (omega arith) q))
-    (has_written_append took f _ g _ h r s)
+-- what `{:02X}` writes of a byte
+pub pair_shown : (b : ℕ) (o : Option (List ℕ)) → b < 256 → o ≡ Some (digits 16 true b)
+    → option_map (padded_integral (format_spec 32 0 4 2 (2 ^ 64 - 1)) false []) o ≡ Some (pair_text b)
+pair_shown b o l e = rw e (ap (λ ds. Some ds) (hex_byte true b l))
 
 lines_push : (i : ℕ) (xs : List ℕ) (b : ℕ) → lines_from i (xs ++ b ∷ []) ≡ lines_from i xs ++ (separator (i + length xs) ++ pair_text b)
 lines_push i [] b = let e : i ≡ i + 0 = omega arith in append-nil (separator i ++ pair_text b) ∙ ap (λ k. separator k ++ pair_text b) e

@@ -1,21 +1,30 @@
 -- Numbers of digits that grow past a limit.
-use Rattle.std.proofs.Common.{◌≡◌, ℕ, ◌+◌, ◌*◌, ◌<◌, ◌≤◌, min, List, [], ◌∷◌, length, get_or, drop, Some, None, Option, sym, refl, ap, ◌∙◌, arith}
-use Rattle.std.proofs.lemmas.List.{at_drop_all, at_drop_more}
-use Rattle.std.proofs.lemmas.Bool.{cond-false, lt-leb}
+use Rattle.std.proofs.Common.{◌≡◌, ℕ, zero, suc, ◌+◌, ◌*◌, ◌<◌, ◌-◌, ◌^◌, min, true, nat_eq, nat_lt, List, [], ◌∷◌, length, get_or, take, drop, Some, None, Ok, Err, Option, Result, sym, refl, ap, ◌∙◌, arith}
+use Rattle.std.proofs.lemmas.List.{at_drop_more}
+use Rattle.std.proofs.lemmas.Bool.Decides.{Decides-eqb, nat_tests}
+use Rattle.std.proofs.lemmas.Slice.Eq.{slice_eq-Decides}
 use Rattle.std.specs.Option.{option_map}
-use Rattle.text.specs.Decimal.{at_most, decimal_value}
-use Rattle.text.specs.Numbers.{and_then, number_after, number_of}
+use Rattle.text.specs.Decimal.{at_most, decimal_read, decimal_value}
+use Rattle.std.specs.Cmp.Lexicographic.{pointwise}
+use Rattle.std.specs.Result.{OkIff, result_unwrap_or}
+use Rattle.std.specs.declared.num.TryFromIntError.{TryFromIntError}
+use Rattle.text.specs.Hex.{hex_number_read, hex_value}
+use Rattle.text.specs.Numbers.{and_then, digit_in, number_after, number_of}
 
 same_cut : (m : ℕ) (o : Option ℕ) (f g : ℕ → Option ℕ) → ((d : ℕ) → option_map (min m) (f d) ≡ option_map (min m) (g d))
     → option_map (min m) (and_then o f) ≡ option_map (min m) (and_then o g)
 same_cut m None f g h = refl
 same_cut m (Some d) f g h = h d
 
+same_step : (m n k base d : ℕ) → 0 < base → min m n ≡ min m k → min m (n * base + d) ≡ min m (k * base + d)
+same_step m n k zero d h e = absurd (omega arith)
+same_step m n k (suc base) d h e = grind arith
+
 -- numbers that are one once they are cut stay so under more digits
-pub cut_after : (digit : ℕ → Option ℕ) (m n k : ℕ) (bs : List ℕ) → min m n ≡ min m k
-    → option_map (min m) (number_after digit 16 n bs) ≡ option_map (min m) (number_after digit 16 k bs)
-cut_after digit m n k [] e = ap (λ x. Some x) e
-cut_after digit m n k (b ∷ bs) e = same_cut m (digit b) _ _ (λ d. cut_after digit m (n * 16 + d) (k * 16 + d) bs (omega arith))
+pub cut_after : (digit : ℕ → Option ℕ) (base m n k : ℕ) (bs : List ℕ) → 0 < base → min m n ≡ min m k
+    → option_map (min m) (number_after digit base n bs) ≡ option_map (min m) (number_after digit base k bs)
+cut_after digit base m n k [] h e = ap (λ x. Some x) e
+cut_after digit base m n k (b ∷ bs) h e = same_cut m (digit b) _ _ (λ d. cut_after digit base m (n * base + d) (k * base + d) bs h (same_step m n k base d h e))
 
 -- what a byte more makes of the number so far
 abbrev digit_then : (ℕ → Option ℕ) → ℕ → ℕ → List ℕ → Option ℕ → Option ℕ
@@ -26,32 +35,58 @@ pub after_more : (digit : ℕ → Option ℕ) (base n : ℕ) (bs : List ℕ) (i 
     → number_after digit base (n * base + d) (drop (i + 1) bs) ≡ number_after digit base n (drop i bs)
 after_more digit base n bs i d h e = ap (digit_then digit base n (drop (i + 1) bs)) e ∙ sym (at_drop_more (number_after digit base n) bs i 0 h)
 
--- no digit at place i
-pub after_none : (digit : ℕ → Option ℕ) (base n : ℕ) (bs : List ℕ) (i : ℕ) → i < length bs → None ≡ digit (get_or bs i 0)
-    → None ≡ number_after digit base n (drop i bs)
-after_none digit base n bs i h e = ap (digit_then digit base n (drop (i + 1) bs)) e ∙ sym (at_drop_more (number_after digit base n) bs i 0 h)
+same_then : (o : Option ℕ) (f g : ℕ → Option ℕ) → ((d : ℕ) → f d ≡ g d) → and_then o f ≡ and_then o g
+same_then None f g h = refl
+same_then (Some d) f g h = h d
 
--- no digit is left
-pub after_all : (digit : ℕ → Option ℕ) (base n : ℕ) (bs : List ℕ) (i : ℕ) → length bs ≤ i → Some n ≡ number_after digit base n (drop i bs)
-after_all digit base n bs i h = sym (at_drop_all (number_after digit base n) bs i h)
+-- digits of one value make one number
+after_same : (f g : ℕ → Option ℕ) (base n : ℕ) (bs : List ℕ) → ((b : ℕ) → f b ≡ g b) → number_after f base n bs ≡ number_after g base n bs
+after_same f g base n [] h = refl
+after_same f g base n (b ∷ bs) h =
+    ap (λ o. and_then o (λ d. number_after f base (n * base + d) bs)) (h b) ∙ same_then (g b) _ _ (λ d. after_same f g base (n * base + d) bs h)
 
--- there is a digit
-pub of_some : (digit : ℕ → Option ℕ) (base : ℕ) (bs : List ℕ) → 0 < length bs → number_after digit base 0 bs ≡ number_of digit base bs
-of_some digit base [] h = absurd (omega arith)
-of_some digit base (b ∷ bs) h = refl
+pub of_same : (f g : ℕ → Option ℕ) (base : ℕ) (bs : List ℕ) → ((b : ℕ) → f b ≡ g b) → number_of f base bs ≡ number_of g base bs
+of_same f g base [] h = refl
+of_same f g base (b ∷ bs) h = after_same f g base 0 (b ∷ bs) h
 
-past_none : (limit : ℕ) (o : Option ℕ) (f : ℕ → Option ℕ) → ((d : ℕ) → and_then (f d) (at_most limit) ≡ None)
-    → and_then (and_then o f) (at_most limit) ≡ None
-past_none limit None f h = refl
-past_none limit (Some d) f h = h d
+pub digit_10 : (b : ℕ) → digit_in 10 b ≡ decimal_value b
+digit_10 b = grind (arith, nat_tests)
 
--- a number above the limit stays above it
-past_limit : (digit : ℕ → Option ℕ) (limit n : ℕ) (bs : List ℕ) → limit < n → and_then (number_after digit 10 n bs) (at_most limit) ≡ None
-past_limit digit limit n [] h = cond-false _ _ _ (lt-leb n limit h)
-past_limit digit limit n (b ∷ bs) h = past_none limit (digit b) _ (λ d. past_limit digit limit (n * 10 + d) bs (omega arith))
+pub digit_16 : (b : ℕ) → digit_in 16 b ≡ hex_value b
+digit_16 b = grind (arith, nat_tests)
 
--- a digit more takes the number past the limit
-pub digit_past : (limit n : ℕ) (bs : List ℕ) (i d : ℕ) → i < length bs → Some d ≡ decimal_value (get_or bs i 0) → limit < n * 10 + d
-    → None ≡ and_then (number_after decimal_value 10 n (drop i bs)) (at_most limit)
-digit_past limit n bs i d h e past =
-    sym (past_limit decimal_value limit (n * 10 + d) (drop (i + 1) bs) past) ∙ ap (λ o. and_then o (at_most limit)) (after_more decimal_value 10 n bs i d h e)
+-- a number above the limit is above it also once it is cut
+pub limit_cut : (m limit : ℕ) (o : Option ℕ) → limit < m → and_then (option_map (min m) o) (at_most limit) ≡ and_then o (at_most limit)
+limit_cut m limit None h = refl
+limit_cut m limit (Some n) h = grind (arith, nat_tests)
+
+-- a number that was read, against a limit
+pub decimal_is : (m limit v : ℕ) (bs : List ℕ) → Some v ≡ option_map (min m) (number_of (digit_in 10) 10 bs) → limit < m
+    → decimal_read limit bs ≡ at_most limit v
+decimal_is m limit v bs e h =
+    ap (λ o. and_then o (at_most limit)) (sym (of_same (digit_in 10) decimal_value 10 bs digit_10))
+    ∙ sym (limit_cut m limit (number_of (digit_in 10) 10 bs) h) ∙ ap (λ o. and_then o (at_most limit)) (sym e)
+
+-- the number behind "0x"
+behind_0x : (bs ds : List ℕ) → take 2 bs ≡ 48 ∷ 120 ∷ [] → ds ≡ drop 2 bs → hex_number_read bs ≡ option_map (min 0xFFFFFFFF) (number_of (digit_in 16) 16 ds)
+behind_0x [] ds h e = cc
+behind_0x (x ∷ []) ds h e = cc
+behind_0x (x ∷ y ∷ bs) ds h e =
+    let a : x ≡ 48 = cc in
+    let b : y ≡ 120 = cc in
+    let l : nat_lt 1 (suc (suc (length bs))) ≡ true = grind (arith, nat_tests) in
+    rw (e, a, b, l) (ap (option_map (min 0xFFFFFFFF)) (sym (of_same (digit_in 16) hex_value 16 bs digit_16)))
+
+-- and cut to 32
+cut_twice : (o : Option ℕ) → option_map (min 0xFFFFFFFF) (option_map (min (2 ^ 64 - 1)) o) ≡ option_map (min 0xFFFFFFFF) o
+cut_twice None = refl
+cut_twice (Some n) = ap (λ k. Some k) (omega arith)
+
+pub hex_number_is : (bs ds : List ℕ) → pointwise nat_eq (take 2 bs) (48 ∷ 120 ∷ []) ≡ true → ds ≡ drop 2 bs
+    → (o : Option ℕ) → o ≡ option_map (min (2 ^ 64 - 1)) (number_of (digit_in 16) 16 ds) → hex_number_read bs ≡ option_map (min 0xFFFFFFFF) o
+hex_number_is bs ds h e o r =
+    behind_0x bs ds ((slice_eq-Decides Decides-eqb _ _ _ refl).0 h) e ∙ sym (cut_twice (number_of (digit_in 16) 16 ds)) ∙ ap (option_map (min 0xFFFFFFFF)) (sym r)
+
+pub or_most : (r : Result ℕ TryFromIntError) (v : ℕ) → OkIff r (v < 2 ^ 32) v → result_unwrap_or r 0xFFFFFFFF ≡ min 0xFFFFFFFF v
+or_most (Ok n) v h = omega arith
+or_most (Err e) v h = grind arith

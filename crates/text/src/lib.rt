@@ -4,6 +4,7 @@
 pub mod decimal;
 pub mod hex;
 pub mod lines;
+mod number;
 
 #[cfg(test)]
 mod tests {

@@ -1,7 +1,7 @@
 // Bytes shown as capital hexadecimal pairs, sixteen to a line.
-ghost use Rattle.std.specs.Prelude.{◌≡◌, ◌<◌, Some};
+ghost use Rattle.std.specs.Prelude.{◌≡◌, Some};
 ghost use Rattle.std.specs.Fmt.{WritesOnOk};
-ghost use Rattle.text.specs.Lines.{capital, pair_text, separator, hex_lines};
+ghost use Rattle.text.specs.Lines.{pair_text, separator, hex_lines};
 
 use std::fmt;
 
@@ -11,28 +11,16 @@ pub struct HexLines<'a> {
     pub bytes: &'a [u8],
 }
 
-// The digit of a value below sixteen.
-fn capital_digit(d: u8) -> char
-    requires { d < 16 }
-    ensures { result ≡ capital d }
-{
-    if d < 10 {
-        char::from(b'0' + d)
-    } else {
-        char::from(b'A' + (d - 10))
-    }
-}
-
-// Writes what stands before the byte with the index `i`.
-fn write_separator<W: fmt::Write>(f: &mut fmt::Formatter<W>, i: usize) -> fmt::Result
-    ensures { WritesOnOk W.write_str_gives f.old result (separator i) f.new }
+// What stands before the byte with the index `i`.
+fn separator(i: usize) -> &'static str
+    ensures { result.now ≡ separator i }
 {
     if i == 0 {
-        Ok(())
+        ""
     } else if i % 16 == 0 {
-        f.write_str("\n")
+        "\n"
     } else {
-        f.write_str(" ")
+        " "
     }
 }
 
@@ -40,8 +28,7 @@ fn write_separator<W: fmt::Write>(f: &mut fmt::Formatter<W>, i: usize) -> fmt::R
 fn write_pair<W: fmt::Write>(f: &mut fmt::Formatter<W>, b: u8) -> fmt::Result
     ensures { WritesOnOk W.write_str_gives f.old result (pair_text b) f.new }
 {
-    f.write_char(capital_digit(b / 16))?;
-    f.write_char(capital_digit(b % 16))
+    write!(f, "{b:02X}")
 }
 
 impl fmt::Display for HexLines<'_> {
@@ -49,7 +36,7 @@ impl fmt::Display for HexLines<'_> {
 
     fn fmt<W: fmt::Write>(&self, f: &mut fmt::Formatter<W>) -> fmt::Result {
         for (i, b) in self.bytes.iter().enumerate() {
-            write_separator(f, i)?;
+            f.write_str(separator(i))?;
             write_pair(f, *b)?;
         }
         Ok(())

@@ -1,38 +1,35 @@
 -- The writes of the frame writer make the frame.
-use Rattle.std.proofs.Common.{◌≡◌, ℕ, suc, ◌+◌, ◌-◌, ◌/◌, ◌%◌, ◌<◌, ◌≤◌, true, List, [], ◌∷◌, ◌++◌, length, take, drop, set, sym, ap, ◌∙◌, ap₂, arith}
+use Rattle.std.proofs.Common.{◌≡◌, ℕ, suc, ◌+◌, ◌-◌, ◌/◌, ◌%◌, ◌<◌, ◌≤◌, true, ◌&&◌, leb, List, [], ◌∷◌, ◌++◌, length, take, drop, set, sym, ap, ◌∙◌, arith}
 use borrow.Rule.Slice.PartMut.{put_mid}
-use Rattle.std.proofs.lemmas.List.{append_assoc, drop-set-lt, length-append, length-set, length-take-le, set_split, take_more_set}
+use Rattle.std.proofs.lemmas.List.{append_assoc, drop-drop, length-append, length-take-le}
 use Rattle.std.proofs.lemmas.Slice.{between-put_mid, drop-put_mid}
-use Rattle.std.proofs.lemmas.Bool.{cond-true}
+use Rattle.std.proofs.lemmas.Bool.{and_parts, cond-true, leb-true}
 use Rattle.wire.specs.Checksum.{crc}
 use Rattle.wire.specs.Frame.{frame, framed, over, room}
 use Rattle.wire.proofs.Frames.{length_frame, room_holds}
 
--- two bytes written behind the first n
-two_set : (xs : List ℕ) (n lo hi : ℕ) → n + 2 ≤ length xs → set (set xs n lo) (n + 1) hi ≡ take n xs ++ (lo ∷ hi ∷ drop (n + 2) xs)
-two_set xs n lo hi h =
-    let p : n < length xs = omega arith in
-    let q : n + 1 < length (set xs n lo) = omega (arith, length-set xs n lo) in
-    let e : suc (n + 1) ≡ n + 2 = omega arith in
-    set_split (set xs n lo) (n + 1) hi q
-    ∙ ap₂ (λ ys zs. ys ++ hi ∷ zs) (take_more_set xs n lo p) (ap (λ k. drop k (set xs n lo)) e ∙ drop-set-lt (n + 2) xs n lo (omega arith))
-    ∙ append_assoc (take n xs) (lo ∷ []) (hi ∷ drop (n + 2) xs)
+-- the two bytes of a number, the low one first
+pub low_first : (n : ℕ) → n < 0x10000 → ◌≡◌ {A = List ℕ} ((n % 0x100) ∷ (n / 0x100 % 0x100) ∷ []) ((n % 0x100) ∷ (n / 0x100) ∷ [])
+low_first n h = let e : n / 0x100 % 0x100 ≡ n / 0x100 = omega arith in rw e
 
--- the five bytes written around a core command that stands in its place
-pub enclosed : (xs core : List ℕ) (n s : ℕ) → n + 5 ≤ length xs → core ≡ take n (drop 3 xs) → s ≡ crc core
-    → set (set (set (set (set xs 0 0x80) 1 (n % 0x100)) 2 (n / 0x100)) (3 + n) (s % 0x100)) (4 + n) (s / 0x100) ≡ over (frame core) xs
+-- a core command that has a frame is short
+pub room_small : (n m : ℕ) → room n m ≡ true → n ≤ 299
+room_small n m h = leb-true n 299 (and_parts (leb n 299) (leb (n + 5) m) (and_parts (leb 1 n) (leb n 299 && leb (n + 5) m) h).1).0
+
+-- the three writes around a core command that stands in its place
+pub enclosed : (xs core size sum : List ℕ) (n k : ℕ) → n + 5 ≤ length xs → core ≡ take n (drop 3 xs) → size ≡ (n % 0x100) ∷ (n / 0x100) ∷ []
+    → sum ≡ (crc core % 0x100) ∷ (crc core / 0x100) ∷ [] → k ≡ 2
+    → put_mid (3 + n) k (put_mid 1 2 (set xs 0 0x80) size) sum ≡ over (frame core) xs
 unfolding frame
-enclosed [] core n s h e f = absurd (omega arith)
-enclosed (a ∷ []) core n s h e f = absurd (omega arith)
-enclosed (a ∷ b ∷ []) core n s h e f = absurd (omega arith)
-enclosed (a ∷ b ∷ d ∷ xs) core n s h e f =
+enclosed [] core size sum n k h e p q z = absurd (omega arith)
+enclosed (a ∷ []) core size sum n k h e p q z = absurd (omega arith)
+enclosed (a ∷ b ∷ []) core size sum n k h e p q z = absurd (omega arith)
+enclosed (a ∷ b ∷ d ∷ xs) core size sum n k h e p q z =
     let z3 : 3 + n ≡ suc (suc (suc n)) = omega arith in
-    let z4 : 4 + n ≡ suc (suc (suc (n + 1))) = omega arith in
-    let l : n + 2 ≤ length xs = omega arith in
     let m : length core ≡ n = ap length e ∙ length-take-le n xs (omega arith) in
     let ends : length (core ++ (crc core % 0x100) ∷ (crc core / 0x100) ∷ []) ≡ n + 2 = simp length-append (omega arith) in
-    rw (z3, z4, two_set xs n (s % 0x100) (s / 0x100) l, ends, m, f, ← e)
-    (ap (λ bs. 0x80 ∷ (n % 0x100) ∷ (n / 0x100) ∷ bs) (sym (append_assoc core ((crc core % 0x100) ∷ (crc core / 0x100) ∷ []) (drop (n + 2) xs))))
+    rw (p, q, z, z3, ends, m, ← e)
+    (ap (λ bs. 0x80 ∷ (n % 0x100) ∷ (n / 0x100) ∷ bs) (ap (λ bs. core ++ (crc core % 0x100) ∷ (crc core / 0x100) ∷ bs) (drop-drop 2 n xs) ∙ sym (append_assoc core ((crc core % 0x100) ∷ (crc core / 0x100) ∷ []) (drop (n + 2) xs))))
 
 -- a frame around a core command that was copied to its place is the frame written at once
 pub copied : (xs core ys : List ℕ) (n k : ℕ) → room n (length xs) ≡ true → n ≡ length core → k ≡ n → ys ≡ core

@@ -25,10 +25,8 @@ pub fn enclose(out: &mut [u8], n: usize) -> Option<usize>
     }
     let sum = checksum(&out[3..3 + n]);
     out[0] = 0x80;
-    out[1] = (n % 256) as u8;
-    out[2] = (n / 256) as u8;
-    out[3 + n] = (sum % 256) as u8;
-    out[4 + n] = (sum / 256) as u8;
+    out[1..3].copy_from_slice(&(n as u16).to_le_bytes());
+    out[3 + n..5 + n].copy_from_slice(&sum.to_le_bytes());
     Some(n + 5)
 }
 

@@ -3,7 +3,8 @@ ghost use Rattle.std.specs.Prelude.{◌≡◌, ℕ, ◌*◌, ◌^◌, ◌<◌, l
 ghost use Rattle.cipher.specs.Ghash as spec;
 ghost use Rattle.cipher.specs.Horner.{added, horner, fourth};
 
-use crate::mode::block_of;
+use crate::session::block_of;
+use std::array;
 
 // What four shifts make of the four bits that fall out.
 const REDUCED: [u128; 16] = [
@@ -66,10 +67,7 @@ impl Factor {
     pub(crate) fn new(value: u128) -> Self
         ensures { result.value ≡ value }
     {
-        let mut products = [0; 16];
-        for t in 0..16u8 {
-            products[t as usize] = small_product(t, value);
-        }
+        let products = array::from_fn(|t| small_product(t as u8, value));
         Factor { value, products }
     }
 
@@ -88,8 +86,8 @@ impl Factor {
         ensures { result ≡ spec.ghash self.now.value «data».now }
     {
         let mut y = 0;
-        for i in 0..data.len().div_ceil(16) {
-            let b = u128::from_be_bytes(block_of(data, i));
+        for part in data.chunks(16) {
+            let b = u128::from_be_bytes(block_of(part));
             y = self.times(y ^ b);
         }
         self.times(y ^ (data.len() as u128 * 8))

@@ -1,9 +1,9 @@
 // Lending an image, and the memory on it.
-ghost use Rattle.std.specs.Prelude.{◌≡◌, length, ◌==◌};
-ghost use Rattle.fault.specs.Checks.{check};
+ghost use Rattle.std.specs.Prelude.{◌≡◌, length, Ok, ◌==◌};
+ghost use Rattle.fault.specs.Checks.{check, then};
 ghost use Rattle.fault.specs.declared.Fault.TheVariants.{ImageSize};
 ghost use Rattle.memory.specs.Areas.{map_size};
-ghost use Rattle.memory.specs.Lent.{lent_long, lent_meaning, meaning_of};
+ghost use Rattle.memory.specs.Lent.{lent, lent_long, lent_meaning, meaning_of};
 
 use super::LentImage;
 use crate::areas::{MAP_SIZE, place_of};
@@ -36,6 +36,16 @@ pub fn lend(image: &mut [u8], held: Held, supply: Supply) -> LentImage<'_>
         image,
         held,
         supply,
+    }
+}
+
+impl<'a> LentImage<'a> {
+    // A memory on an image; refuses one that is not as long as the map.
+    pub fn over(image: &'a mut [u8], held: Held, supply: Supply) -> Result<LentImage<'a>, Fault>
+        ensures { lent result ≡ then (check (length image.old == map_size) ImageSize) (Ok (meaning_of image.old held supply)) }
+    {
+        sized(image)?;
+        Ok(lend(image, held, supply))
     }
 }
 

@@ -25,10 +25,10 @@ returns-in-Err c =
     let xs = c.args.reply.now in
     let f = c.in-Err.fault in
     let e = c.write-in-Err.ensures in
-    let s = c.to_refusal-shown.ensures in
+    let s = c.to_refusal.ensures in
     let is = sym c.in-Err.is in
     record {
-      answer = ap (refuses f) (front (sent_of c.to_refusal-shown.result) xs _ _ e.reply e.count ∙ s) ∙ ap replied is;
+      answer = ap (refuses f) (front (sent_of c.to_refusal.result) xs _ _ e.reply e.count ∙ s) ∙ ap replied is;
       reply = e.reply ∙ ap (λ bs. over bs xs) s ∙ ap (λ d. over (replied d).sent xs) is;
       bound = e.bound;
     }

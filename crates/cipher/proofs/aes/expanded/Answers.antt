@@ -7,8 +7,8 @@ use Rattle.cipher.proofs.aes.expanded.Goals as goal
 pub loop-i-init : goal.loop-i-init
 loop-i-init c =
     let key = c.args.key.now in
-    let e : flat c.columns_of-k.result ≡ round_key key 0 = c.columns_of-k.ensures ∙ sym (round_key_none key) in
-    (e, refl, λ i h. let z : 0 ≡ i = omega arith in subst (λ (j : ℕ). flat (get_or (replicate 11 c.columns_of-k.result) j no_columns) ≡ round_key key j) z e)
+    let e : flat c.from-k.result ≡ round_key key 0 = c.from-k.ensures ∙ sym (round_key_none key) in
+    (e, refl, λ i h. let z : 0 ≡ i = omega arith in subst (λ (j : ℕ). flat (get_or (replicate 11 c.from-k.result) j no_columns) ≡ round_key key j) z e)
 
 pub loop-i-preserved : goal.loop-i-preserved
 loop-i-preserved c =

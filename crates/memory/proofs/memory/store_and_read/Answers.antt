@@ -5,14 +5,14 @@ use Rattle.memory.proofs.Exits.{passed_on}
 use Rattle.memory.proofs.StoredBack.{stored_back, stored_read}
 use Rattle.memory.proofs.memory.store_and_read.Goals as goal
 
-pub returns-in_err-store : goal.returns-in_err-store
-returns-in_err-store g c =
+pub returns-in_err-store-clause-law : goal.returns-in_err-store-clause-law
+returns-in_err-store-clause-law g c =
     let m = g.M.Memory.meaning c.args.memory.now in
     let v = c.args.value in
     let long = g.M.Memory.long c.args.memory.now in
     let e = c.store.ensures in
     let r = passed_on _ _ c.from_residual.ensures.1 ∙ ap (λ x. then x (Ok v)) (sym c.in_err-store.was ∙ e.value) in
-    record { after = e.after; value = r; law = stored_back c.args.address v m long _ _ e.after r }
+    stored_back c.args.address v m long _ _ e.after r
 
 pub returns : goal.returns
 returns g c =

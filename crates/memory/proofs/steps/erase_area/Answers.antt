@@ -1,28 +1,36 @@
-use Rattle.std.proofs.Common.{sym, refl, ap, ◌∙◌}
+use Rattle.std.proofs.Common.{◌≡◌, ℕ, ◌+◌, Some, None, Option, refl, ap, arith}
 use Rattle.memory.specs.Areas.{erase_last}
-use Rattle.memory.specs.Meaning.{all_in_map, performed}
 use Rattle.memory.specs.Steps.{blanks_to}
-use Rattle.memory.proofs.Loops.{round_blanks, round_other, round_part}
-use Rattle.memory.proofs.Turns.{done_all, done_end}
+use Rattle.memory.proofs.Exits.{passed_on}
+use Rattle.memory.proofs.Loops.{blanks_end, blanks_more}
+use Rattle.memory.proofs.Turns.{done_end, turn_broke, turn_went, turns_done}
 use Rattle.memory.proofs.steps.erase_area.Goals as goal
 
-pub returns-then-holds-vector : goal.returns-then-holds-vector
-returns-then-holds-vector g c =
-    let m = g.M.Memory.meaning c.args.memory.now in
-    done_end _ _ m m (round_other c.args.vector _ c.args.area.now c.holds.ensures c.if-holds-vector.true) refl
+nothing : (o : Option ℕ) → ((x : ℕ) → o ≡ Some x → ⊥) → o ≡ None
+nothing None h = refl
+nothing (Some x) h = absurd (h x refl)
 
-pub returns-in-None : goal.returns-in-None
-returns-in-None g c =
-    let m = g.M.Memory.meaning c.args.memory.now in
-    let x = c.args.area.now in
-    done_end _ _ m m (round_part c.args.vector _ x c.holds.ensures c.if-holds-vector.false ∙ ap (blanks_to (erase_last x)) c.in-None.is) refl
+pub returns-in_err-store : goal.returns-in_err-store
+returns-in_err-store g c =
+    let o = blanks_more c.loop-address.address c.erase_last-address-end.result (omega arith) in
+    turn_broke _ _ _ _ _ _ _ o c.loop-address.invariant _ _ (passed_on _ _ c.from_residual.ensures.1) c.in_err-store.ensures
 
-pub blank_up-requires : goal.blank_up-requires
-blank_up-requires g c =
-    sym (ap all_in_map (round_blanks _ _ c.args.area.now _ _ c.holds.ensures c.if-holds-vector.false c.in-Some.is c.erase_last.ensures)) ∙ c.requires
+pub loop-address-preserved : goal.loop-address-preserved
+loop-address-preserved g c =
+    let o = blanks_more c.loop-address.address c.erase_last-address-end.result (omega arith) in
+    turn_went _ _ _ _ _ _ _ o c.loop-address.invariant c.in_ok-store.ensures
 
+-- the last address
+pub returns-in_ok-store : goal.returns-in_ok-store
+returns-in_ok-store g c =
+    let a = c.loop-address.address in
+    let l = c.erase_last-address-end.result in
+    let d = turn_went _ _ _ _ _ _ _ (blanks_more a l (omega arith)) c.loop-address.invariant c.in_ok-store.ensures in
+    turns_done _ _ _ _ (blanks_end (a + 1) l (omega arith)) d
+
+-- no address, and nothing to erase
 pub returns-in-Some : goal.returns-in-Some
-returns-in-Some g c =
-    let m = g.M.Memory.meaning c.args.memory.now in
-    let e = round_blanks _ _ c.args.area.now _ _ c.holds.ensures c.if-holds-vector.false c.in-Some.is c.erase_last.ensures in
-    done_all _ _ m m _ _ _ (ap (λ xs. performed xs m) (sym e)) refl c.blank_up.ensures
+returns-in-Some g c = turns_done _ _ _ _ (blanks_end c.loop-address.address c.erase_last-address-end.result (omega arith)) c.loop-address.invariant
+
+pub returns-in_default : goal.returns-in_default
+returns-in_default g c = done_end _ _ _ _ (ap (blanks_to (erase_last c.args.area.now)) (nothing _ c.in_default.not-Some)) refl

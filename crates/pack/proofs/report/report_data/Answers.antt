@@ -9,4 +9,4 @@ packed_is (Ok f) n e = refl
 packed_is (Err f) n e = cc
 
 pub returns : goal.returns
-returns g c h = (_, packed_is _ c.in-Ok.length c.in-Ok.ensures.answer)
+returns g c h = (_, packed_is _ c.in_ok-length.length c.in_ok-length.ensures.answer)

@@ -1,11 +1,10 @@
-use Rattle.std.proofs.Common.{◌≡◌, ℕ, true, leb, List, [], ◌∷◌, length, set, Ok, sym, refl, ap, ◌∙◌, arith, rules}
+use Rattle.std.proofs.Common.{◌≡◌, ℕ, true, leb, List, length, Ok, sym, ap, ◌∙◌, arith, rules}
 use borrow.Rule.Slice.PartMut.{put_mid}
 use Rattle.std.proofs.lemmas.Bool.{le-leb}
 use Rattle.cipher.specs.Cipher.{Usable}
 use Rattle.packer.specs.Packets.{key_contents}
 use Rattle.packer.specs.Packing.{frame_length, laid}
 use Rattle.packer.proofs.Packs.{formed, key_passes, length_packed, over_packed, opens_back}
-use Rattle.packer.proofs.Places.{put_two, put_next}
 use Rattle.packer.proofs.pack.pack_key.Goals as goal
 
 pub returns : goal.returns
@@ -21,10 +20,9 @@ returns g c =
     let passes = key_passes C kek iv p (length out) w d in
     let u : Usable C kek iv = (c.told-kek, c.told-iv, formed C iv w) in
     let lk : length p.key ≡ 16 = search rules in
+    let lc : 18 ≡ length (key_contents p) = omega arith in
     let ey =
-    ap (λ (x : List ℕ). put_mid 22 16 (set (set out 20 p.kind) 21 p.version) x) c.copy_from_slice.ensures.after
-    ∙ ap (λ (x : List ℕ). put_mid 22 16 x p.key) (put_two out 20 p.kind p.version (omega arith))
-    ∙ put_next 20 22 16 out (p.kind ∷ p.version ∷ []) p.key refl (sym lk) (omega arith) in
+    ap (λ (x : List ℕ). put_mid 20 18 out x) (c.copy_from_slice.ensures.after ∙ c.contents.ensures) ∙ ap (λ k. put_mid 20 k out (key_contents p)) lc in
     let eo = c.sealed_frame.ensures.out ∙ over_packed C L 0x31 18 kek iv (key_contents p) out _ u (omega arith) (omega arith) (omega arith) ey in
     let er = c.sealed_frame.ensures.answer in
     record {

@@ -1,11 +1,7 @@
--- Two digits are a byte more.
-use Rattle.std.proofs.Common.{◌≤◌, length, vec_items, ◌∙◌, rules}
-use Rattle.text.proofs.HexReads.{read_turn}
+-- An odd number of digits.
+use Rattle.std.proofs.Common.{arith}
+use Rattle.text.proofs.HexReads.{read_odd}
 use Rattle.text.proofs.hex.hex_bytes.Goals as goal
 
-pub loop-rest-preserved : goal.loop-rest-preserved
-loop-rest-preserved c =
-    let h : 2 ≤ length c.loop-rest.rest.now = search rules in
-    read_turn (vec_items c.loop-rest.bytes) (vec_items c.push.new.self) c.loop-rest.rest.now c.in-Some.b h c.in-Some.ensures
-    c.in_ok-push.ensures.items
-    ∙ c.loop-rest.invariant
+pub returns-then-text-ne0 : goal.returns-then-text-ne0
+returns-then-text-ne0 c = read_odd c.args.text.now (omega arith)

@@ -1,31 +1,12 @@
-use Rattle.std.proofs.Common.{[], ap, ◌∙◌}
 use Rattle.memory.proofs.Exits.{passed_on}
-use Rattle.board.specs.Outcomes.{board_with}
-use Rattle.rules.specs.Board.{Outcome, enact, refuses, says}
-use Rattle.board.specs.Answers.{boot_answer}
 use Rattle.board.specs.Reading.{receiver_of}
-use Rattle.board.specs.State.{state_of}
-use Rattle.board.proofs.Calling.{dark_from, lit_from, only_dark, question_dark, question_on}
+use Rattle.board.proofs.Calling.{asked, asked_dark}
 use Rattle.board.proofs.board.Board.boot.Goals as goal
 
 pub returns-in_err-check_power : goal.returns-in_err-check_power
-returns-in_err-check_power g c =
-    let s = state_of g.M.Memory.meaning c.args.self.now in
-    let e = c.in_err-check_power.ensures in
-    let t = question_dark g.C.PacketCipher.cipher s (dark_from s.dark _ e) in
-    record {
-      state = ap (λ (o : Outcome). o.state) t;
-      answer = ap boot_answer (passed_on _ _ c.from_residual.ensures.1) ∙ ap (λ f. refuses f []) (only_dark s.dark _ e) ∙ ap (λ (o : Outcome). o.answer) t;
-    }
+returns-in_err-check_power g c = asked_dark g.C.PacketCipher.cipher c.args.self.now _ _ c.in_err-check_power.ensures (passed_on _ _ c.from_residual.ensures.1)
 
 pub returns : goal.returns
-unfolding enact
 returns g c =
-    let s = state_of g.M.Memory.meaning c.args.self.now in
-    let b = c.args.self.now in
-    let t = question_on g.C.PacketCipher.cipher s (lit_from s.dark c.in_ok-check_power.ensures) in
-    let e = c.boot_of.ensures in
-    record {
-      state = ap (λ m. board_with m (receiver_of b.receiver) b.session b.dark) e.same ∙ ap (λ (o : Outcome). o.state) t;
-      answer = ap says e.value ∙ ap (λ (o : Outcome). o.answer) t;
-    }
+    let b = c.self.inside in
+    asked g.C.PacketCipher.cipher c.args.self.now b.device (receiver_of b.receiver) b.dark c.self.view_is _ _ c.boot.ensures.same c.boot.ensures.value c.in_ok-check_power.ensures

@@ -1,44 +1,41 @@
-use Rattle.std.proofs.Common.{take, Ok, sym, refl, ap, ◌∙◌}
+use Rattle.std.proofs.Common.{Ok, sym, ap, ◌∙◌}
 use Rattle.memory.proofs.Exits.{passed_on}
+use Rattle.rules.specs.Board.{State}
 use Rattle.rules.specs.Receiver.{read}
-use Rattle.board.specs.Reading.{answer_of, left_by, receiver_of}
-use Rattle.board.specs.Sending.{outcome_of}
-use Rattle.board.proofs.Hearing.{hears_bad, hears_core, hears_part, read_bad, read_good, read_waits}
+use Rattle.board.specs.Reading.{handed, left_by, receiver_of}
+use Rattle.board.specs.Sending.{on_byte}
+use Rattle.board.proofs.Hearing.{heard_as, hears_bad, hears_core, hears_part, read_bad, read_good, read_waits}
 use Rattle.board.proofs.board.Board.hear.Goals as goal
 
 pub returns-in_err-byte : goal.returns-in_err-byte
 returns-in_err-byte g c =
-    let b = c.args.self.now in
-    let m = g.M.Memory.meaning b.memory in
-    let h = receiver_of b.receiver in
-    let f = c.in_err-byte.field-0.0 in
-    let e = c.in_err-byte.ensures in
-    record {
-      outcome = ap (outcome_of m (receiver_of c.byte.new.self) b.session) (passed_on _ _ c.from_residual.ensures.1)
-          ∙ hears_bad g.C.PacketCipher.cipher m h b.session b.dark c.requires.lit c.args.byte _ f e.after (read_bad _ f e.value);
-      rest = refl;
-    }
+    let C = g.C.PacketCipher.cipher in
+    let b = c.self.inside in
+    let w = b.device in
+    let lit = ap (λ (s : State). s.dark) c.self.view_is ∙ c.requires in
+    ap (heard_as w.memory _ w.session) (passed_on _ _ c.from_residual.ensures.1)
+    ∙ hears_bad C w.memory (receiver_of b.receiver) w.session b.dark lit c.args.byte _ _ c.byte.follows.holds-at-none (read_bad _ _ c.in_err-byte.ensures.value)
+    ∙ ap (λ s. on_byte C s c.args.byte) c.self.view_is
 
-pub returns-in-Part : goal.returns-in-Part
-returns-in-Part g c =
-    let b = c.args.self.now in
-    let m = g.M.Memory.meaning b.memory in
-    let h = receiver_of b.receiver in
-    let e = c.in_ok-byte.ensures in
-    let v = sym (ap (λ x. answer_of (Ok x) c.byte.new.self.core) c.in-Part.is) ∙ e.value in
-    record { outcome = hears_part g.C.PacketCipher.cipher m h b.session b.dark c.requires.lit c.args.byte _ e.after (read_waits _ v); rest = refl }
+pub returns-in-None : goal.returns-in-None
+returns-in-None g c =
+    let C = g.C.PacketCipher.cipher in
+    let b = c.self.inside in
+    let w = b.device in
+    let lit = ap (λ (s : State). s.dark) c.self.view_is ∙ c.requires in
+    let v = sym (ap (λ x. handed (Ok x)) c.in-None.is) ∙ c.in_ok-byte.ensures.value in
+    hears_part C w.memory (receiver_of b.receiver) w.session b.dark lit c.args.byte _ c.byte.follows.holds-at-none (read_waits _ v)
+    ∙ ap (λ s. on_byte C s c.args.byte) c.self.view_is
 
-pub returns-in-Core : goal.returns-in-Core
-returns-in-Core g c =
-    let b = c.args.self.now in
-    let m = g.M.Memory.meaning b.memory in
+pub returns-in-Some : goal.returns-in-Some
+returns-in-Some g c =
+    let C = g.C.PacketCipher.cipher in
+    let b = c.self.inside in
+    let w = b.device in
     let h = receiver_of b.receiver in
-    let e = c.in_ok-byte.ensures in
-    let core = take c.in-Core.n c.byte.new.self.core in
-    let v = read_good (read h c.args.byte) core (sym (ap (λ x. answer_of (Ok x) c.byte.new.self.core) c.in-Core.is) ∙ e.value) in
-    let o = c.obey_front.ensures in
-    record {
-      outcome = ap (λ y. outcome_of (g.M.Memory.meaning c.obey_front.new.memory) y c.obey_front.new.session c.obey_front.result) (e.after ∙ ap left_by v)
-          ∙ hears_core g.C.PacketCipher.cipher m h b.session b.dark c.requires.lit c.args.byte _ core v o.outcome;
-      rest = o.rest;
-    }
+    let lit = ap (λ (s : State). s.dark) c.self.view_is ∙ c.requires in
+    let v = read_good (read h c.args.byte) c.in-Some.core.buffer.now (sym (ap (λ x. handed (Ok x)) c.in-Some.is) ∙ c.in_ok-byte.ensures.value) in
+    let left = c.obey.new.self in
+    ap (λ r. heard_as left.memory r left.session c.obey.result) (c.byte.follows.holds-at-none ∙ ap left_by v)
+    ∙ hears_core C w.memory h w.session b.dark lit c.args.byte _ _ v c.obey.ensures
+    ∙ ap (λ s. on_byte C s c.args.byte) c.self.view_is

@@ -1,19 +1,9 @@
-use Rattle.std.proofs.Common.{false, sym, refl}
-use Rattle.std.proofs.lemmas.Bool.{cond-false, cond-true, eq-eqb, ne_eqb}
-use Rattle.memory.specs.Meaning.Step.{set_version}
-use Rattle.memory.proofs.Turns.{done_none}
-use Rattle.rules.specs.Board.{closing_steps}
-use Rattle.board.proofs.Stepping.{done_by, one_done}
+use Rattle.std.proofs.Common.{sym, ◌∙◌}
+use Rattle.board.proofs.Stepping.{last_closes, other_closes}
 use Rattle.board.proofs.data.Opened.close_update.Goals as goal
 
-pub returns-then-self : goal.returns-then-self
-unfolding closing_steps
-returns-then-self g c =
-    let m = g.M.Memory.meaning c.args.memory.now in
-    done_by _ _ m _ _ (sym (cond-true _ _ _ (eq-eqb _ _ c.if-self.true))) (one_done (set_version c.args.self.now.ver false) m _ _ refl c.set_version.ensures)
+pub returns-then-pn-np : goal.returns-then-pn-np
+returns-then-pn-np g c = last_closes c.args.self.now _ _ _ _ c.ver.ensures (sym c.pn.ensures ∙ c.if-pn-np.true ∙ c.np.ensures) c.set_version.ensures
 
 pub returns : goal.returns
-unfolding closing_steps
-returns g c =
-    let m = g.M.Memory.meaning c.args.memory.now in
-    done_by _ _ m _ _ (sym (cond-false _ _ _ (ne_eqb _ _ c.if-self.false))) (done_none m)
+returns g c = other_closes c.args.self.now _ (λ e. c.if-pn-np.false (c.pn.ensures ∙ e ∙ sym c.np.ensures))

@@ -1,19 +1,9 @@
-use Rattle.std.proofs.Common.{true, sym, refl}
-use Rattle.std.proofs.lemmas.Bool.{cond-false, cond-true, eq-eqb, ne_eqb}
-use Rattle.memory.specs.Meaning.Step.{set_version}
-use Rattle.memory.proofs.Turns.{done_none}
-use Rattle.rules.specs.Board.{opening_steps}
-use Rattle.board.proofs.Stepping.{done_by, one_done}
+use Rattle.std.proofs.Common.{sym, ◌∙◌}
+use Rattle.board.proofs.Stepping.{first_opens, other_opens}
 use Rattle.board.proofs.data.Opened.open_update.Goals as goal
 
-pub returns-then-self-eq1 : goal.returns-then-self-eq1
-unfolding opening_steps
-returns-then-self-eq1 g c =
-    let m = g.M.Memory.meaning c.args.memory.now in
-    done_by _ _ m _ _ (sym (cond-true _ _ _ (eq-eqb _ _ c.if-self-eq1.true))) (one_done (set_version c.args.self.now.ver true) m _ _ refl c.set_version.ensures)
+pub returns-then-pn-eq1 : goal.returns-then-pn-eq1
+returns-then-pn-eq1 g c = first_opens c.args.self.now _ _ _ _ c.ver.ensures (sym c.pn.ensures ∙ c.if-pn-eq1.true) c.set_version.ensures
 
 pub returns : goal.returns
-unfolding opening_steps
-returns g c =
-    let m = g.M.Memory.meaning c.args.memory.now in
-    done_by _ _ m _ _ (sym (cond-false _ _ _ (ne_eqb _ _ c.if-self-eq1.false))) (done_none m)
+returns g c = other_opens c.args.self.now _ (λ e. c.if-pn-eq1.false (c.pn.ensures ∙ e))

@@ -1,8 +1,5 @@
 -- One byte more, behind what stands before it.
-use Rattle.std.proofs.Common.{true, refl, ap, arith}
-use Rattle.std.proofs.Output.{has_written_of_eq}
-use Rattle.std.proofs.lemmas.List.{take_all}
-use Rattle.text.specs.Lines.{hex_lines}
+use Rattle.std.proofs.Common.{true, refl, arith}
 use Rattle.text.proofs.HexTexts.{byte_put}
 use Rattle.text.proofs.lines.HexLinesDisplay.fmt.Goals as goal
 
@@ -12,12 +9,6 @@ loop-i-preserved g c =
     let bs = c.args.self.now.bytes.now in
     let i = c.loop-i.i in
     let so_far = c.loop-i.invariant plain in
-    let before = c.in_ok-write_separator.ensures so_far.plain (refl {a = true}) in
+    let before = rw c.separator.ensures at (c.in_ok-write_str.ensures.writes so_far.plain (refl {a = true})) in
     let pair = c.in_ok-write_pair.ensures before.plain (refl {a = true}) in
-    byte_put g.W.Write.write_str_gives c.args.f.now c.loop-i.f c.write_separator.new.f c.write_pair.new.f bs i (omega arith) so_far before pair
-
-pub returns-clause-writes : goal.returns-clause-writes
-returns-clause-writes g c =
-    λ plain ok.
-    has_written_of_eq g.W.Write.write_str_gives c.args.f.now _ _ c.loop-i.f
-    (ap hex_lines (take_all c.loop-i.i c.args.self.now.bytes.now (omega arith))) (c.loop-i.invariant plain)
+    byte_put g.W.Write.write_str_gives c.args.f.now c.loop-i.f c.write_str.new.self c.write_pair.new.f bs i (omega arith) so_far before pair

@@ -1,0 +1,50 @@
+use Rattle.std.proofs.Common.{refl}
+use Rattle.memory.proofs.Exits.{passed_on}
+use Rattle.board.proofs.Judging.{data_judged, data_shut, data_unsized}
+use Rattle.board.proofs.Outcome.{data_dark, data_refuses, data_well}
+use Rattle.board.proofs.device.Device.take_data.Goals as goal
+
+pub returns-in_err-sealed : goal.returns-in_err-sealed
+returns-in_err-sealed g c =
+    let C = g.C.PacketCipher.cipher in
+    let w = c.args.self.now in
+    let core = c.args.core.buffer.now in
+    data_refuses C w w.memory w.memory w.memory w.session refl refl core _ _ (passed_on _ _ c.from_residual.ensures.1) (data_unsized C w w.memory w.session refl w.memory.contents.held refl core _ c.in_err-sealed.ensures)
+
+pub returns-in_err-opened : goal.returns-in_err-opened
+returns-in_err-opened g c =
+    let C = g.C.PacketCipher.cipher in
+    let w = c.args.self.now in
+    let core = c.args.core.buffer.now in
+    let h = c.record-held in
+    data_refuses C w _ _ w.memory _ c.self.view_is h.ensures.same core _ _ (passed_on _ _ c.from_residual-in_err-opened.ensures.1)
+    (data_shut C w _ _ c.self.view_is h.result h.ensures.value core _ c.in_ok-sealed.ensures _ c.in_err-opened.ensures)
+
+pub returns-in_err-judged : goal.returns-in_err-judged
+returns-in_err-judged g c =
+    let C = g.C.PacketCipher.cipher in
+    let w = c.args.self.now in
+    let core = c.args.core.buffer.now in
+    let h = c.record-held in
+    data_refuses C w _ _ w.memory _ c.self.view_is h.ensures.same core _ _ (passed_on _ _ c.from_residual-in_err-judged.ensures.1)
+    (data_judged C w _ _ c.self.view_is h.result h.ensures.value core _ c.in_ok-sealed.ensures _ c.in_ok-opened.ensures _ c.in_err-judged.ensures)
+
+pub returns-in_err-next : goal.returns-in_err-next
+returns-in_err-next g c =
+    let C = g.C.PacketCipher.cipher in
+    let w = c.args.self.now in
+    let core = c.args.core.buffer.now in
+    let h = c.record-held in
+    data_dark C w _ _ _ _ c.self.view_is h.ensures.same core _
+    (data_judged C w _ _ c.self.view_is h.result h.ensures.value core _ c.in_ok-sealed.ensures _ c.in_ok-opened.ensures _ c.in_ok-judged.ensures)
+    _ _ (passed_on _ _ c.from_residual-in_err-next.ensures.1) c.in_err-next.ensures.steps
+
+pub returns : goal.returns
+returns g c =
+    let C = g.C.PacketCipher.cipher in
+    let w = c.args.self.now in
+    let core = c.args.core.buffer.now in
+    let h = c.record-held in
+    data_well C w _ _ _ _ c.self.view_is h.ensures.same core _
+    (data_judged C w _ _ c.self.view_is h.result h.ensures.value core _ c.in_ok-sealed.ensures _ c.in_ok-opened.ensures _ c.in_ok-judged.ensures)
+    _ c.in_ok-next.ensures.session c.in_ok-next.ensures.steps

@@ -1,0 +1,17 @@
+-- What opening a packet comes to.
+use Rattle.std.specs.Prelude.{ℕ, List, Ok, Err, Result}
+use Rattle.std.specs.Borrow.{Bor}
+use Rattle.fault.specs.Checks.{then}
+use Rattle.fault.specs.declared.Fault.{Fault}
+use Rattle.cipher.specs.Cipher.{Cipher, iv_checked}
+use Rattle.rules.specs.Packets.{iv_of, body_of}
+use Rattle.rules.specs.Board.{on_opened}
+
+-- what is read of the contents of a core command under a key: refused at its IV, or where it does not open
+abbrev pub opened_by : {A : Type 0} → Cipher → (List ℕ → A) → List ℕ → List ℕ → Result A Fault
+opened_by C f key core = then (iv_checked C (iv_of core)) (on_opened (λ c. Ok (f c)) (C.opened key (iv_of core) (body_of core)))
+
+-- an answer, with what lies behind its reference
+abbrev pub behind : Result (Bor (List ℕ)) Fault → Result (List ℕ) Fault
+behind (Ok r) = Ok r.now
+behind (Err f) = Err f

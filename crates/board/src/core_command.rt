@@ -1,0 +1,46 @@
+// A core command that has arrived, read where it lies.
+ghost use Rattle.std.specs.Prelude.{◌≡◌, ◌<◌, ◌≤◌, length};
+ghost use Rattle.rules.specs.Commands.{alone, command};
+
+use buffer::Buffer;
+use rules::Command;
+
+#[derive(Clone, Copy)]
+pub struct CoreCommand<'a> {
+    pub(crate) buffer: &'a Buffer<299>,
+    ghost sized: { (0 < length buffer.now) × (length buffer.now ≤ 299) },
+}
+
+// The command of a byte with nothing behind it.
+fn alone(byte: u8) -> Command
+    ensures { result ≡ alone byte }
+{
+    match byte {
+        0x15 => Command::MassErase,
+        0x19 => Command::Version,
+        0x25 => Command::Reset,
+        _ => Command::Unknown(byte),
+    }
+}
+
+impl<'a> CoreCommand<'a> {
+    // Its bytes, of which there are 1 to 299.
+    pub fn bytes(&self) -> &'a [u8]
+        ensures bytes { result.now ≡ self.now.buffer.now }
+        ensures sized { (0 < length self.now.buffer.now) × (length self.now.buffer.now ≤ 299) }
+    {
+        self.buffer.as_slice()
+    }
+
+    pub(crate) fn command(&self) -> Command
+        ensures { result ≡ command self.now.buffer.now }
+    {
+        match self.bytes() {
+            [] => Command::Unknown(0),
+            [0x30, ..] => Command::Data,
+            [0x31, ..] => Command::Key,
+            [byte] => alone(*byte),
+            [byte, ..] => Command::Unknown(*byte),
+        }
+    }
+}

@@ -1,0 +1,56 @@
+// Taking a packet that has arrived: what it leaves and answers is what the rules' machine says.
+ghost use Rattle.std.specs.Prelude.{◌≡◌};
+ghost use Rattle.rules.specs.Board.{enact, judge_data, judge_key, on_data, on_key};
+ghost use Rattle.board.specs.Outcomes.{lit, packet_outcome};
+
+use super::Device;
+use crate::core_command::CoreCommand;
+use crate::data::Opened;
+use crate::key::OpenedKey;
+use crate::sealed::{SealedData, SealedKey};
+use crate::work::WORK;
+use cipher::PacketCipher;
+use fault::Fault;
+use memory::Memory;
+use rules::Session;
+
+impl<M: Memory> Device<M> {
+    // Takes a data packet, its core command given. The session is over unless all steps are kept.
+    pub(super) fn take_data<C: PacketCipher>(
+        &mut self,
+        core: CoreCommand,
+        work: &mut [u8; WORK],
+    ) -> Result<(), Fault>
+        ensures { packet_outcome self.new result ≡ enact (on_data (judge_data C.cipher (lit self.old) core.entry.buffer.now)) (lit self.old) }
+    {
+        let sealed = SealedData::of(core)?;
+        let held = self.memory.record();
+        let current = held.keys[0];
+        let opened = Opened::open::<C>(sealed, &current.key, work)?;
+        let judged = opened.judge(&self.session, &held)?;
+        self.session = Session::Closed;
+        let next = judged.store(&mut self.memory)?;
+        self.session = next;
+        Ok(())
+    }
+
+    // Takes a key packet, its core command given. The session stays, unless the step is not kept.
+    pub(super) fn take_key<C: PacketCipher>(
+        &mut self,
+        core: CoreCommand,
+        work: &mut [u8; WORK],
+    ) -> Result<(), Fault>
+        ensures { packet_outcome self.new result ≡ enact (on_key (judge_key C.cipher (lit self.old) core.entry.buffer.now)) (lit self.old) }
+    {
+        let sealed = SealedKey::of(core)?;
+        let held = self.memory.record();
+        let kek = held.keys[1];
+        let opened = OpenedKey::open::<C>(sealed, &kek.key, work)?;
+        let judged = opened.judge(&held)?;
+        let current = self.session;
+        self.session = Session::Closed;
+        judged.store(&mut self.memory)?;
+        self.session = current;
+        Ok(())
+    }
+}

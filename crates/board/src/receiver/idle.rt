@@ -1,0 +1,25 @@
+// A receiver that waits for a frame.
+ghost use Rattle.std.specs.Prelude.{◌≡◌};
+ghost use Rattle.rules.specs.Receiver.Receiver.{idle};
+ghost use Rattle.board.specs.Reading.{receiver_of};
+
+use super::{Progress, Receiver};
+use buffer::Buffer;
+
+impl Receiver {
+    pub fn idle() -> Receiver
+        ensures { receiver_of result ≡ idle }
+    {
+        Receiver {
+            progress: Progress::Idle,
+            core: Buffer::new(),
+        }
+    }
+
+    // Makes it idle, as a silence does.
+    pub fn clear(&mut self)
+        ensures { receiver_of self.new ≡ idle }
+    {
+        self.progress = Progress::Idle;
+    }
+}

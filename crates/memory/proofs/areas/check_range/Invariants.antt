@@ -1,7 +1,0 @@
-use Rattle.std.proofs.Common.{◌≡◌, ◌-◌}
-use Rattle.memory.specs.Areas.{first_outside}
-use Rattle.memory.proofs.areas.check_range.Given as goal
-
--- what is left of the range gives the answer
-abbrev pub invariant-loop : goal.invariant-loop
-invariant-loop l = first_outside l.at (l.count - l.counter) ≡ first_outside l.address l.count

@@ -1,0 +1,56 @@
+// Why the program fails.
+use crate::usage::{Argument, Form};
+use fault::Fault;
+use std::alloc::{AllocError, AllocFailed};
+use std::{fmt, io};
+
+#[derive(Clone, Copy)]
+pub enum Failure {
+    // An argument is malformed, of a form of the program.
+    Malformed(Form, Argument),
+    // A check refuses the packet.
+    Refused(Fault),
+    // The frame did not open again to the same contents.
+    NotOpened,
+    // There is no memory, or a stream takes nothing: of that nothing is told.
+    System,
+}
+
+impl fmt::Display for Failure {
+    fn fmt<W: fmt::Write>(&self, f: &mut fmt::Formatter<W>) -> fmt::Result {
+        match self {
+            Failure::Malformed(form, argument) => {
+                write!(f, "malformed: {argument}; usage: {form}")
+            }
+            Failure::Refused(fault) => write!(f, "refused: {fault}"),
+            Failure::NotOpened => {
+                write!(f, "The frame did not open again to the same contents.")
+            }
+            Failure::System => Ok(()),
+        }
+    }
+}
+
+impl From<Fault> for Failure {
+    fn from(fault: Fault) -> Failure {
+        Failure::Refused(fault)
+    }
+}
+
+impl From<AllocError> for Failure {
+    fn from(_: AllocError) -> Failure {
+        Failure::System
+    }
+}
+
+impl<T: Drop> From<AllocFailed<T>> for Failure {
+    fn from(_: AllocFailed<T>) -> Failure {
+        Failure::System
+    }
+}
+
+impl From<io::Error> for Failure {
+    fn from(_: io::Error) -> Failure {
+        Failure::System
+    }
+}
