@@ -1,8 +1,7 @@
 // The memories that are swept: the lent image, and the scrambler over it.
 use crate::cut::{Cut, again, cut_power, steps_of};
 use crate::programs::{fill, lay_program};
-use anyhow::anyhow;
-use memory::{Held, LentImage, Memory, Scrambler, Supply, lend, sized};
+use memory::{Held, LentImage, Memory, Scrambler, Supply};
 use rules::{Boot, Event};
 use std::alloc::Global;
 use std::fmt;
@@ -41,8 +40,7 @@ fn prepare<M: Memory + Drop>(mut memory: M, version: u8) -> anyhow::Result<()> {
 impl Kind {
     // Fills an image, and lays the program of a version over it.
     pub fn prepare(self, image: &mut [u8], held: Held, version: u8) -> anyhow::Result<()> {
-        sized(image)?;
-        let lent = lend(image, held, Supply::NoEnd);
+        let lent = LentImage::over(image, held, Supply::NoEnd)?;
         match self {
             Kind::Lent => prepare(lent, version),
             Kind::Scrambled => prepare(scrambled(lent), version),
@@ -56,8 +54,7 @@ impl Kind {
         held: Held,
         calls: &[Event],
     ) -> anyhow::Result<u32> {
-        sized(image)?;
-        let mut lent = lend(image, held, Supply::NoEnd);
+        let mut lent = LentImage::over(image, held, Supply::NoEnd)?;
         let steps = match self {
             Kind::Lent => steps_of(heap, &mut lent, calls)?,
             Kind::Scrambled => steps_of(heap, &mut scrambled(lent), calls)?,
@@ -73,8 +70,7 @@ impl Kind {
         calls: &[Event],
         steps: u32,
     ) -> anyhow::Result<Cut> {
-        sized(image)?;
-        let mut lent = lend(image, held, Supply::NoEnd);
+        let mut lent = LentImage::over(image, held, Supply::NoEnd)?;
         let done = match self {
             Kind::Lent => cut_power(heap, &mut lent, calls, steps)?,
             Kind::Scrambled => cut_power(heap, &mut scrambled(lent), calls, steps)?,
@@ -89,8 +85,7 @@ impl Kind {
         held: Held,
         calls: &[Event],
     ) -> anyhow::Result<Option<Boot>> {
-        sized(image)?;
-        let mut lent = lend(image, held, Supply::NoEnd);
+        let mut lent = LentImage::over(image, held, Supply::NoEnd)?;
         let said = match self {
             Kind::Lent => again(heap, &mut lent, calls)?,
             Kind::Scrambled => again(heap, &mut scrambled(lent), calls)?,
