@@ -1,7 +1,6 @@
 // One cut: the power goes while something is sent, comes back, and something is sent again; and what the board says to boot questions.
 ghost use Rattle.std.specs.Prelude.{◌≡◌, IfOk};
 ghost use Rattle.rules.specs.Board.{run};
-ghost use Rattle.board.specs.State.{state_of};
 ghost use Rattle.sweep.specs.Cuts.{cut_at, power_back, said_at};
 
 use crate::borrowed::Borrowed;
@@ -32,8 +31,8 @@ fn ask_twice<M: Memory, C: PacketCipher>(
     calls: &[Event],
     steps: u32,
 ) -> Result<(Option<Boot>, Option<Boot>), AllocError>
-    ensures gone { IfOk result (λ said. said.0 ≡ said_at C.cipher (cut_at C.cipher steps calls.now (state_of M.meaning board.old))) }
-    ensures back { IfOk result (λ said. said.1 ≡ said_at C.cipher (power_back C.cipher (cut_at C.cipher steps calls.now (state_of M.meaning board.old)))) }
+    ensures gone { IfOk result (λ said. said.0 ≡ said_at C.cipher (cut_at C.cipher steps calls.now board.old)) }
+    ensures back { IfOk result (λ said. said.1 ≡ said_at C.cipher (power_back C.cipher (cut_at C.cipher steps calls.now board.old))) }
 {
     board.power_up(Supply::Steps(steps));
     board.run(heap, calls)?;
@@ -49,7 +48,7 @@ fn ask_after<M: Memory, C: PacketCipher>(
     board: &mut Board<M, C>,
     calls: &[Event],
 ) -> Result<Option<Boot>, AllocError>
-    ensures { IfOk result (λ said. said ≡ said_at C.cipher (run C.cipher (state_of M.meaning board.old) calls.now)) }
+    ensures { IfOk result (λ said. said ≡ said_at C.cipher (run C.cipher board.old calls.now)) }
 {
     board.run(heap, calls)?;
     Ok(board.boot().ok())
