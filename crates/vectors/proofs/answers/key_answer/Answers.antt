@@ -1,5 +1,4 @@
 use Rattle.std.proofs.Common.{◌≡◌, ℕ, ◌-◌, ◌≤◌, List, length, take, replicate, Ok, Result, ap, ◌∙◌, arith, length-take}
-use Rattle.std.proofs.lemmas.List.{length-replicate}
 use Rattle.fault.specs.declared.Fault.{Fault}
 use Rattle.packer.specs.Packing.{packed_key}
 use Rattle.vectors.proofs.Fronts.{packed_front}
