@@ -1,6 +1,7 @@
 # make demo   prove what is needed, then seal, print and open packets, and tell the story of an update
+# make sweep  prove what is needed, then cut the power of a board at each of 121,992 storing steps, and tell what it says
 # make test   the gate: what the programs print and refuse, then rt ci (its last line: 'N passed, 0 failed')
-.PHONY: demo test
+.PHONY: demo sweep test
 
 # any packet that pack packs
 packet = data ccm 000102030405060708090A0B0C0D0E0F 01000000000000000000000000010000 7 1 1 0x4400 00
@@ -11,9 +12,16 @@ demo:
 	@sh tests/build.sh demo
 	@sh tests/demo.sh
 
+sweep:
+	@echo "Proving the program sweep and what it stands on (from nothing, some minutes) .."
+	@sh tests/build.sh sweep 60479
+	@crates/sweep/out/sweep
+
 test:
 	sh tests/expected.sh
 	sh tests/build.sh pack $(packet)
 	sh tests/refusals.sh
+	sh tests/build.sh demo
+	sh tests/opening.sh
 	sh tests/refused.sh
 	sh tests/gate.sh

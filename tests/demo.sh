@@ -1,6 +1,6 @@
 #!/bin/sh
 # Carries the programs' main jobs out: one data packet and one key packet, sealed, framed, printed and opened again; then a refusal; then
-# the story of an update that is cut by a power failure.
+# the story of an update that is cut by a power failure, whose frames are written to target/update.frames.
 set -e
 cd "$(dirname "$0")/.."
 pack=crates/pack/out/pack
@@ -16,4 +16,5 @@ echo
 echo "# An IV that is not well formed for CCM is refused, with the place of its first wrong byte."
 "$pack" data ccm $key 01000000000000000000000000010007 7 1 1 0x4400 00 || echo "(status $?)"
 echo
-crates/demo/out/demo
+mkdir -p target
+crates/demo/out/demo target/update.frames

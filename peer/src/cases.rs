@@ -29,6 +29,7 @@ pub fn write() -> String {
         cases.key_packets(cipher);
     }
     cases.every_data_count();
+    cases.no_cases();
     cases.text
 }
 
@@ -347,6 +348,57 @@ impl Cases {
             self.data(cipher, &iv, [3, 4, 5, 0x4400, room - 1], &bytes);
         }
     }
+
+    /// Lines that are no cases, each a small change away from one; and some that still are.
+    fn no_cases(&mut self) {
+        let key = hex::to_text(&self.random.block());
+        let iv = hex::to_text(&self.iv(Cipher::Ccm));
+        let long = hex::to_text(&self.random.bytes(LONGEST_CONTENTS + 1));
+        let sealed = format!("ccm {key} {iv}");
+        for line in [
+            "".to_string(),
+            " ".to_string(),
+            "block".to_string(),
+            format!("Block {key} {key}"),
+            format!("block {key} {key} "),
+            format!(" block {key} {key}"),
+            format!("block  {key} {key}"),
+            format!("block {key} {key} {key}"),
+            format!("block {key}0 {key}"),
+            format!("block {key} {}", &key[1..]),
+            format!("block {} {key}", key.to_lowercase()),
+            format!("block {}G {key}", &key[1..]),
+            format!("block -{} {key}", &key[1..]),
+            format!("seal {sealed} {long}"),
+            format!("seal {sealed} 0"),
+            format!("seal {sealed} "),
+            format!("seal {sealed} --"),
+            format!("seal {sealed}"),
+            format!("seal CCM {key} {iv} -"),
+            format!("seal ccm {key} {iv}00 -"),
+            format!("open {sealed} 0G"),
+            format!("open gcm {key} {} -", &iv[2..]),
+            format!("data {sealed} 256 1 1 17408 49 FF"),
+            format!("data {sealed} 1 65536 1 17408 49 FF"),
+            format!("data {sealed} 1 1 65536 17408 49 FF"),
+            format!("data {sealed} 1 1 1 4294967296 49 FF"),
+            format!("data {sealed} 1 1 1 17408 1025 FF"),
+            format!("data {sealed} 1 1 1 17408 1024 FF"),
+            format!("data {sealed} 1 1 1 0x4400 49 FF"),
+            format!("data {sealed} 001 01 1 17408 0000000049 fF"),
+            format!("data {sealed} +1 1 1 17408 49 FF"),
+            format!("data {sealed} 1 -1 1 17408 49 FF"),
+            format!("data {sealed} 1  1 17408 49 FF"),
+            format!("key {sealed} 256 1 56 {key}"),
+            format!("key {sealed} 0 256 56 {key}"),
+            format!("key {sealed} 0 1 1025 {key}"),
+            format!("key {sealed} 0 1 1024 {key}"),
+            format!("key {sealed} 0 1 56 {key}00"),
+            format!("key {sealed} 0 1 56 -"),
+        ] {
+            self.line(&[&line]);
+        }
+    }
 }
 
 #[cfg(test)]
@@ -368,9 +420,15 @@ mod tests {
     }
 
     #[test]
-    fn no_contents_are_longer_than_can_be_sealed() {
-        for case in write().lines().filter(|case| case.starts_with("seal")) {
-            assert!(case.rsplit(' ').next().unwrap().len() <= 2 * LONGEST_CONTENTS);
-        }
+    fn only_the_last_lines_are_no_cases() {
+        let cases = write();
+        let mut answers = Vec::new();
+        run(cases.as_bytes(), &mut answers).unwrap();
+        let answers = String::from_utf8(answers).unwrap();
+        let malformed = |answers: &str| answers.lines().filter(|line| *line == "malformed").count();
+        let count = malformed(&answers);
+        assert!(count > 30);
+        let last = answers.lines().count() - 39;
+        assert_eq!(malformed(&answers.lines().take(last).collect::<Vec<_>>().join("\n")), 0);
     }
 }

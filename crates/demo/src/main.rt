@@ -1,10 +1,13 @@
-// demo: packs an update, sends it to a fresh board, cuts the power in the middle, and tells what the board says on the way.
+// demo: packs an update, writes its frames to a file if one is named, sends it to a fresh board, cuts the power in the middle, and tells what the board says on the way.
 #![tactic(auto)]
 
 use board::{Answer, Board};
 use cipher::{Aes128, BlockCipher, Ccm};
 use example::{COUNT, Frame, pack_part, push_frame};
 use memory::{Held, LentImage, Memory, Supply};
+use std::env;
+use std::fs::File;
+use std::io::Write;
 
 const KEY: [u8; 16] = [7; 16];
 
@@ -72,6 +75,16 @@ fn story<M: Memory + Drop>(rt: &HostRuntime, memory: M, frames: &[Frame]) -> any
     ask(rt, &mut board)
 }
 
+// Writes the frames to a file, one behind the other, as they go over the wire.
+fn write_frames(rt: &HostRuntime, path: &str, frames: &[Frame]) -> anyhow::Result<()> {
+    let mut file = File::create(rt, path)?;
+    for frame in frames {
+        file.write_all(frame.as_slice())?;
+    }
+    println!(rt; "Its frames are written to {path}.")?;
+    Ok(())
+}
+
 fn main(rt: HostRuntime) -> anyhow::Result<()> {
     let mut frames = Vec::new(rt.alloc());
     for number in 1..=COUNT {
@@ -82,6 +95,9 @@ fn main(rt: HostRuntime) -> anyhow::Result<()> {
         |sum, frame| sum.saturating_add(frame.as_slice().len()),
     );
     println!(rt; "Version 1 of an update is packed: {COUNT} packets, {count} bytes of frames.")?;
+    if let Some(path) = env::args(&rt)?.nth(1) {
+        write_frames(&rt, path.as_str(), &frames)?;
+    }
     let mut image = vec![in rt.alloc(); 0xFFu8; 61056]?;
     let memory = LentImage::over(&mut image, Held::fresh(KEY, KEK), Supply::NoEnd)?;
     story(&rt, memory, &frames)

@@ -1,0 +1,7 @@
+-- A sign for each turn so far.
+use Rattle.std.proofs.Common.{replicate}
+use Rattle.std.specs.Fmt.{IsPlainFormatter, HasWritten}
+use Rattle.sweep.proofs.bar.BarDisplay.fmt.Given as goal
+
+abbrev pub invariant-loop : goal.invariant-loop
+invariant-loop g l = IsPlainFormatter l.initial.f → HasWritten g.W.Write.write_str_gives l.initial.f (replicate l.counter 35) l.f

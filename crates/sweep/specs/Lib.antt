@@ -1,0 +1,5 @@
+-- What a sweep counts, shows and compares.
+pub mod Bars
+pub mod Cuts
+pub mod Programs
+pub mod Tallies

@@ -1,0 +1,36 @@
+// A bar of a chart: as many signs as its part of the whole, so that no part that is there goes unseen.
+ghost use Rattle.std.specs.Prelude.{◌≡◌, ◌≤◌, Some, replicate};
+ghost use Rattle.sweep.specs.Bars.{bar_length};
+
+use std::fmt;
+
+// The length of the bar of the whole.
+const WIDTH: u64 = 32;
+
+#[derive(Clone, Copy)]
+pub struct Bar {
+    pub length: u64,
+}
+
+impl Bar {
+    // The bar of a part of a whole, which is not 0; rounded up.
+    pub fn of(part: u32, whole: u32) -> Bar
+        ensures { result.length ≡ bar_length part whole }
+    {
+        let whole = if whole == 0 { 1 } else { whole };
+        Bar {
+            length: (u64::from(part) * WIDTH).div_ceil(u64::from(whole)),
+        }
+    }
+}
+
+impl fmt::Display for Bar {
+    ghost output = { λ bar. Some (replicate bar.length 35) };
+
+    fn fmt<W: fmt::Write>(&self, f: &mut fmt::Formatter<W>) -> fmt::Result {
+        for _ in 0..self.length {
+            f.write_char('#')?;
+        }
+        Ok(())
+    }
+}

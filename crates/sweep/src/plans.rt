@@ -1,0 +1,92 @@
+// What is cut, and what is sent again behind the cut: as lists of calls.
+use anyhow::anyhow;
+use cipher::{Aes128, BlockCipher, Ccm};
+use example::{COUNT, pack_part, push_frame};
+use packer::{KeyPacket, pack_key};
+use rules::Event;
+use std::alloc::Global;
+use wire::frame::write_frame;
+
+pub const KEY: [u8; 16] = [7; 16];
+
+pub const KEK: [u8; 16] = [9; 16];
+
+// The key that a key update brings.
+const NEW_KEY: [u8; 16] = [11; 16];
+
+const KEY_IV: [u8; 16] = [1, 1, 2, 3, 5, 8, 13, 21, 34, 55, 89, 144, 0, 0, 0, 0];
+
+#[derive(Drop)]
+pub struct Plan {
+    pub name: &'static str,
+    pub cut: Vec<Event>,
+    pub again: Vec<Event>,
+}
+
+// Adds the calls that send the update of version 2, sealed under a key.
+fn push_update(events: &mut Vec<Event>, key: &[u8; 16]) -> anyhow::Result<()> {
+    for number in 1..COUNT + 1 {
+        let frame = pack_part(key, 2, number)?;
+        push_frame(events, frame.as_slice())?;
+    }
+    Ok(())
+}
+
+fn push_key(events: &mut Vec<Event>) -> anyhow::Result<()> {
+    let packet = KeyPacket {
+        kind: 0,
+        version: 1,
+        key: NEW_KEY,
+    };
+    let mut frame = [0; 56];
+    let length = pack_key::<Ccm<Aes128>>(&KEK, &KEY_IV, &packet, &mut frame)?;
+    push_frame(events, &frame[..length])?;
+    Ok(())
+}
+
+fn push_erase(events: &mut Vec<Event>) -> anyhow::Result<()> {
+    let mut frame = [0; 6];
+    if write_frame(&mut frame, &[0x15]).is_none() {
+        return Err(anyhow!("no frame"));
+    }
+    push_frame(events, &frame)?;
+    Ok(())
+}
+
+// An update over an old program; the update is sent again.
+pub fn update_plan(heap: Global) -> anyhow::Result<Plan> {
+    let mut cut = Vec::new(heap);
+    push_update(&mut cut, &KEY)?;
+    let again = cut.clone()?;
+    Ok(Plan {
+        name: "an update over an old program",
+        cut,
+        again,
+    })
+}
+
+// A new data key; the key is sent again, and an update under it.
+pub fn key_plan(heap: Global) -> anyhow::Result<Plan> {
+    let mut cut = Vec::new(heap);
+    push_key(&mut cut)?;
+    let mut again = cut.clone()?;
+    push_update(&mut again, &NEW_KEY)?;
+    Ok(Plan {
+        name: "a key update",
+        cut,
+        again,
+    })
+}
+
+// A mass erase; an update is sent.
+pub fn erase_plan(heap: Global) -> anyhow::Result<Plan> {
+    let mut cut = Vec::new(heap);
+    push_erase(&mut cut)?;
+    let mut again = Vec::new(heap);
+    push_update(&mut again, &KEY)?;
+    Ok(Plan {
+        name: "a mass erase",
+        cut,
+        again,
+    })
+}

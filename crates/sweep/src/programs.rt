@@ -1,0 +1,51 @@
+// Two programs at the same places of the map, an old one and a new one, among bytes that fill the rest of it.
+ghost use Rattle.std.specs.Prelude.{◌≡◌, ◌%◌, length};
+ghost use Rattle.fault.specs.Checks.{then};
+ghost use Rattle.memory.specs.Steps.{data_answer, data_left};
+ghost use Rattle.sweep.specs.Programs.{program_answer, program_left, with_program};
+
+use fault::Fault;
+use memory::{AREAS, Area, Memory, store_data};
+
+// In an image a program stands at the places 512 to 1023, the start of the lower area, and 44670 and 44671, the reset vector.
+
+// What stands at an address where there is no program: never 0xFF, so that each step of an erase shows.
+fn filler(address: u32) -> u8
+    ensures { result ≡ address % 251 }
+{
+    (address % 251) as u8
+}
+
+fn fill_area<M: Memory>(memory: &mut M, area: &Area) -> Result<(), Fault> {
+    for address in area.first..=area.last {
+        memory.store(address, filler(address))?;
+    }
+    Ok(())
+}
+
+// Fills the map.
+pub fn fill<M: Memory>(memory: &mut M) -> Result<(), Fault> {
+    for area in AREAS.iter() {
+        fill_area(memory, area)?;
+    }
+    Ok(())
+}
+
+// Lays the program of a version over what stands there: 512 bytes of the version's number, and the reset vector.
+pub fn lay_program<M: Memory>(memory: &mut M, version: u8) -> Result<(), Fault>
+    ensures after { M.meaning memory.new ≡ program_left version (M.meaning memory.old) }
+    ensures value { result ≡ program_answer version (M.meaning memory.old) }
+{
+    store_data(memory, 0x4400, &[version; 512])?;
+    store_data(memory, 0xFFFE, &[0x00, 0x44])
+}
+
+// Lays the program that stands in one image over another image.
+pub fn copy_program(to: &mut [u8], from: &[u8])
+    requires to { length to.old ≡ 61056 }
+    requires from { length from.now ≡ 61056 }
+    ensures { to.new ≡ with_program from.now to.old }
+{
+    to[512..1024].copy_from_slice(&from[512..1024]);
+    to[44670..44672].copy_from_slice(&from[44670..44672]);
+}

@@ -1,0 +1,119 @@
+// The words of a case that several kinds of cases have.
+ghost use Rattle.std.specs.Prelude.{◌≡◌};
+ghost use Rattle.text.specs.Decimal.{decimal_read};
+ghost use Rattle.vectors.specs.Words.{data_read, key_read, mode_read, sealing_read};
+
+use packer::{DataPacket, KeyPacket};
+use text::decimal::decimal;
+use text::hex::hex_block;
+
+#[derive(Clone, Copy)]
+pub enum Mode {
+    Ccm,
+    Gcm,
+}
+
+// What a packet is sealed with.
+#[derive(Clone, Copy)]
+pub struct Sealing {
+    pub mode: Mode,
+    pub key: [u8; 16],
+    pub iv: [u8; 16],
+}
+
+// What a data packet says but for its data, and how many bytes the output has.
+#[derive(Clone, Copy)]
+pub struct DataFields {
+    pub version: u8,
+    pub number: u16,
+    pub count: u16,
+    pub address: u32,
+    pub room: usize,
+}
+
+impl DataFields {
+    pub fn packet<'a>(&self, bytes: &'a [u8]) -> DataPacket<'a>
+        ensures { (result.version ≡ self.now.version) × (result.number ≡ self.now.number) × (result.count ≡ self.now.count) × (result.address ≡ self.now.address) × (result.bytes.now ≡ bytes.now) }
+    {
+        DataPacket {
+            version: self.version,
+            number: self.number,
+            count: self.count,
+            address: self.address,
+            bytes,
+        }
+    }
+}
+
+fn mode_of(word: &str) -> Option<Mode>
+    ensures { result ≡ mode_read word.now }
+{
+    match word {
+        "ccm" => Some(Mode::Ccm),
+        "gcm" => Some(Mode::Gcm),
+        _ => None,
+    }
+}
+
+fn byte_of(word: &str) -> Option<u8>
+    ensures { result ≡ decimal_read 255 word.now }
+{
+    match decimal(word.as_bytes(), 255) {
+        Some(n) => Some(n as u8),
+        None => None,
+    }
+}
+
+fn word_of(text: &str) -> Option<u16>
+    ensures { result ≡ decimal_read 65535 text.now }
+{
+    match decimal(text.as_bytes(), 65535) {
+        Some(n) => Some(n as u16),
+        None => None,
+    }
+}
+
+// The room of an output, in bytes.
+pub fn room_of(word: &str) -> Option<usize>
+    ensures { result ≡ decimal_read 4294967295 word.now }
+{
+    match decimal(word.as_bytes(), u32::MAX) {
+        Some(n) => Some(n as usize),
+        None => None,
+    }
+}
+
+// CIPHER, KEY or KEK, IV.
+pub fn sealing_of(cipher: &str, key: &str, iv: &str) -> Option<Sealing>
+    ensures { result ≡ sealing_read cipher.now key.now iv.now }
+{
+    Some(Sealing {
+        mode: mode_of(cipher)?,
+        key: hex_block(key.as_bytes())?,
+        iv: hex_block(iv.as_bytes())?,
+    })
+}
+
+// VER, PN, NP, ADDRESS, ROOM.
+pub fn data_fields(ver: &str, pn: &str, np: &str, address: &str, room: &str) -> Option<DataFields>
+    ensures { result ≡ data_read ver.now pn.now np.now address.now room.now }
+{
+    Some(DataFields {
+        version: byte_of(ver)?,
+        number: word_of(pn)?,
+        count: word_of(np)?,
+        address: decimal(address.as_bytes(), u32::MAX)?,
+        room: room_of(room)?,
+    })
+}
+
+// KT, KV, KEY.
+pub fn key_packet(kt: &str, kv: &str, key: &str) -> Option<KeyPacket>
+    ensures { result ≡ key_read kt.now kv.now key.now }
+{
+    Some(KeyPacket {
+        kind: byte_of(kt)?,
+        version: byte_of(kv)?,
+        key: hex_block(key.as_bytes())?,
+    })
+}
