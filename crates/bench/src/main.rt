@@ -1,12 +1,16 @@
 // bench: reads a listing of calls from standard input, makes them on a fresh board, and prints a row for each line.
 #![tactic(auto)]
 
+ghost use Rattle.std.specs.Prelude.{◌≡◌, length, replicate, Ok};
+ghost use Rattle.rules.specs.Promises.{Given, start};
+
 mod replay;
 mod waiting;
 
 use board::Board;
 use cipher::{Aes128, BlockCipher, Ccm, PacketCipher};
-use memory::{Held, LentImage, Memory, Supply};
+use fault::Fault;
+use memory::{LentImage, MAP_SIZE, Memory};
 use std::io::{BufRead, BufReader, Write};
 use waiting::Bench;
 
@@ -49,8 +53,15 @@ fn replay_input<M: Memory + Drop, C: PacketCipher>(
     print_rows(rt, &mut bench)
 }
 
+// The board that a listing begins on: a fresh one, with the image all 0xFF and keys of zeros.
+fn first_board(image: &mut [u8]) -> Result<Board<LentImage<'_>, Ccm<Aes128>>, Fault>
+    ensures { (g : Given) → g.image ≡ replicate (length image.old) 0xFF → g.data_key_bytes ≡ replicate 16 0 → g.kek_bytes ≡ replicate 16 0 → result ≡ Ok (start g) }
+{
+    image.fill(0xFF);
+    Board::fresh(image, [0; 16], [0; 16])
+}
+
 fn main(rt: HostRuntime) -> anyhow::Result<()> {
-    let mut image = vec![in rt.alloc(); 0xFFu8; 61056]?;
-    let memory = LentImage::over(&mut image, Held::fresh([0; 16], [0; 16]), Supply::NoEnd)?;
-    replay_input::<_, Ccm<Aes128>>(&rt, Board::new(memory))
+    let mut image = vec![in rt.alloc(); 0u8; MAP_SIZE]?;
+    replay_input(&rt, first_board(&mut image)?)
 }

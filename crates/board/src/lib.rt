@@ -9,6 +9,7 @@ mod calls;
 mod core_command;
 mod data;
 mod device;
+mod fresh;
 mod key;
 mod receiver;
 mod reply;
