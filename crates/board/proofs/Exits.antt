@@ -1,5 +1,5 @@
 -- What the exits of a chain of checks tell.
-use Rattle.std.proofs.Common.{◌≡◌, Ok, Err, Result, refl}
+use Rattle.std.proofs.Common.{◌≡◌, Ok, Err, Result, refl, ap, ◌∙◌}
 use Rattle.fault.specs.Checks.{then}
 use Rattle.fault.specs.declared.Fault.{Fault}
 
@@ -16,3 +16,17 @@ module _ {X : Type 0} where
   pub then_value : (v : Result (Unit {0}) Fault) (x y : X) → Ok y ≡ then v (Ok x) → y ≡ x
   then_value (Ok u) x y e = cc
   then_value (Err f) x y e = cc
+
+-- three checks with a value behind them, exit by exit
+module _ {X : Type 0} (u v w : Result (Unit {0}) Fault) (x : X) where
+  pub failed_first : (d : Fault) → Err d ≡ u → Err d ≡ then u (then v (then w (Ok x)))
+  failed_first d a = ap (λ i. then i (then v (then w (Ok x)))) a
+
+  pub failed_second : (d : Fault) → Ok tt ≡ u → Err d ≡ v → Err d ≡ then u (then v (then w (Ok x)))
+  failed_second d a b = ap (λ i. then i (then w (Ok x))) b ∙ ap (λ i. then i (then v (then w (Ok x)))) a
+
+  pub failed_third : (d : Fault) → Ok tt ≡ u → Ok tt ≡ v → Err d ≡ w → Err d ≡ then u (then v (then w (Ok x)))
+  failed_third d a b e = ap (λ i. then i (Ok x)) e ∙ ap (λ i. then i (then w (Ok x))) b ∙ ap (λ i. then i (then v (then w (Ok x)))) a
+
+  pub all_passed : Ok tt ≡ u → Ok tt ≡ v → Ok tt ≡ w → Ok x ≡ then u (then v (then w (Ok x)))
+  all_passed a b e = ap (λ i. then i (Ok x)) e ∙ ap (λ i. then i (then w (Ok x))) b ∙ ap (λ i. then i (then v (then w (Ok x)))) a

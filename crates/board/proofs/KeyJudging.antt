@@ -1,15 +1,16 @@
 -- Judging the fields of a key packet, exit by exit.
-use Rattle.std.proofs.Common.{◌≡◌, ℕ, ◌<◌, ◌≤◌, Bool, true, false, cond, ◌||◌, eqb, ltb, Ok, Err, Result, sym, refl, ap, ◌∙◌}
+use Rattle.std.proofs.Common.{◌≡◌, ℕ, ◌<◌, ◌≤◌, Bool, true, false, cond, ◌||◌, eqb, ltb, [], ◌∷◌, Ok, Err, Result, sym, refl, ap, ◌∙◌}
 use Rattle.std.proofs.lemmas.Bool.{le-ltb, lt-ltb}
 use Rattle.fault.specs.Checks.{check, then}
 use Rattle.fault.specs.declared.Fault.{Fault}
 use Rattle.fault.specs.declared.Fault.TheVariants.{BadKeyType, OldKey}
 use Rattle.memory.specs.Held.{slot_of, slot_place}
+use Rattle.memory.specs.Meaning.Step.{set_key}
 use Rattle.memory.specs.declared.held.Held.{Held}
 use Rattle.memory.specs.declared.held.KeySlot.{KeySlot}
 use Rattle.memory.specs.declared.held.KeySlot.TheVariants.{Data, Kek}
 use Rattle.rules.specs.Memory.{key_record}
-use Rattle.rules.specs.Board.{KeyPacket, judge_key_fields, slot}
+use Rattle.rules.specs.Board.{KeyPacket, judge_key_fields, key_steps, slot}
 use Rattle.board.specs.Judging.{judge_key_by}
 use Rattle.board.proofs.Exits.{then_failed, then_passed, then_value}
 
@@ -53,3 +54,8 @@ module _ (h : Held) (p : KeyPacket) (t : ℕ) (e : t ≡ p.kt) where
 
       pub key_passes : (key_record h i).version < v → Ok p ≡ judge_key_by h p
       key_passes l = judged (Ok tt) true (then_passed typed (slot p.kt) s (k ∙ given)) (compared ∙ lt-ltb _ _ l)
+
+-- the one step of a key packet
+pub step_is : (p : KeyPacket) (s : KeySlot) → s ≡ slot p.kt → set_key s (record { key = p.key; version = p.kv }) ∷ [] ≡ key_steps p
+unfolding key_steps
+step_is p s e = ap (λ i. set_key i (record { key = p.key; version = p.kv }) ∷ []) e

@@ -1,12 +1,15 @@
 -- What opening a packet leaves in the work buffer, and what is read of it.
-use Rattle.std.proofs.Common.{◌≡◌, ℕ, ◌+◌, ◌-◌, ◌≤◌, Bool, true, false, List, ◌++◌, length, take, drop, replicate, Some, None, Ok, Err, Option, Result, sym, refl, ap, ◌∙◌, arith}
-use Rattle.std.proofs.lemmas.List.{append_assoc, length-drop, length-take-le, take_at}
+use Rattle.std.proofs.Common.{◌≡◌, ℕ, ◌+◌, ◌-◌, ◌≤◌, Bool, true, false, List, ◌++◌, length, take, drop, replicate, IfOk, Some, None, Ok, Err, Option, Result, sym, refl, ap, ◌∙◌, ap₂, get_or, arith}
+use Rattle.std.proofs.lemmas.List.{append_assoc, drop-take, get_or-take, length-drop, length-take-le, take_at}
 use Rattle.fault.specs.Checks.{check, then}
 use Rattle.fault.specs.declared.Fault.{Fault}
 use Rattle.fault.specs.declared.Fault.TheVariants.{BadIv, NotOpened}
 use Rattle.cipher.specs.Cipher.{Cipher, Lawful, Usable, iv_checked, opening, yielded}
 use Rattle.rules.specs.Packets.{iv_of, body_of}
-use Rattle.rules.specs.Board.{on_opened}
+use Rattle.rules.specs.Board.{KeyPacket, Packet, fields, key_fields, on_opened}
+use Rattle.board.specs.declared.data.Opened.{Opened}
+use Rattle.board.specs.Opening.{lying}
+use Rattle.board.specs.States.{packet_in, packet_with}
 
 -- an IV that passes its check is well formed
 formed : (C : Cipher) (iv : List ℕ) → iv_checked C iv ≡ Ok tt → C.well_formed iv ≡ true
@@ -27,22 +30,26 @@ opens_to C L k core c l i h e =
     omega (arith, a, length-drop 17 core)
 
 -- the contents stand in front
-pub contents_lie : (o : Option (List ℕ)) (n : ℕ) (rest after : List ℕ) → Ok n ≡ opening o → after ≡ yielded o ++ rest → o ≡ Some (take n after)
-contents_lie None n rest after e h = cc
-contents_lie (Some c) n rest after e h =
-    let l : n ≡ length c = cc in
-    ap Some (sym (ap (take n) (h ∙ append_assoc c (replicate (266 - length c) 0) rest) ∙ take_at c (replicate (266 - length c) 0 ++ rest) n (sym l)))
+pub front : (o : Option (List ℕ)) (r : Result ℕ Fault) (rest after : List ℕ) → r ≡ opening o → after ≡ yielded o ++ rest → lying take after r ≡ on_opened (λ c. Ok c) o
+unfolding on_opened
+front None r rest after e h = ap (lying take after) e
+front (Some c) r rest after e h =
+    ap (lying take after) e
+    ∙ ap Ok (ap (take (length c)) (h ∙ append_assoc c (replicate (266 - length c) 0) rest) ∙ take_at c (replicate (266 - length c) 0 ++ rest) (length c) refl)
 
--- what is read of an opened body, and where it does not open
-module _ {A : Type 0} (f : List ℕ → A) (v : Result (Unit {0}) Fault) (passed : v ≡ Ok tt) where
-  pub reads : (o : Option (List ℕ)) (c : List ℕ) → o ≡ Some c → Ok (f c) ≡ then v (on_opened (λ c. Ok (f c)) o)
-  unfolding on_opened
-  reads o c e = sym (ap (λ i. then i (on_opened (λ c. Ok (f c)) o)) passed ∙ ap (on_opened (λ c. Ok (f c))) e)
+-- how many bytes they have
+pub count_is : (C : Cipher) → Lawful C → (k core : List ℕ) → length k ≡ 16 → iv_checked C (iv_of core) ≡ Ok tt → 17 ≤ length core
+    → (o : Option (List ℕ)) → C.opened k (iv_of core) (body_of core) ≡ o → (r : Result ℕ Fault) → r ≡ opening o → IfOk r (λ n. n + 33 ≡ length core)
+count_is C L k core l i h (Some c) e (Ok n) q =
+    let z : n ≡ length c = cc in
+    omega (arith, z, opens_to C L k core c l i h e)
+count_is C L k core l i h None e (Ok n) q = cc
+count_is C L k core l i h o e (Err f) q = tt
 
-  pub shut : (o : Option (List ℕ)) (d : Fault) → Err d ≡ opening o → Err d ≡ then v (on_opened (λ c. Ok (f c)) o)
-  unfolding on_opened
-  shut None d e = let q : d ≡ NotOpened = cc in ap Err q ∙ sym (ap (λ i. then i (on_opened (λ c. Ok (f c)) None)) passed)
-  shut (Some c) d e = cc
+-- the same, from the same number written otherwise
+pub long_as : (r : Result ℕ Fault) (i j : ℕ) → i ≡ j → IfOk r (λ n. n + 33 ≡ i) → IfOk r (λ n. n + 33 ≡ j)
+long_as (Ok n) i j e h = h ∙ e
+long_as (Err f) i j e h = tt
 
 -- contents that are opened, and what is read of them
 module _ {A : Type 0} (f : List ℕ → A) where
@@ -57,3 +64,21 @@ module _ {A : Type 0} (f : List ℕ → A) where
   open_reads (Ok u) None c e = cc
   open_reads (Ok u) (Some b) c e = let q : c ≡ b = cc in ap (λ x. Ok (f x)) q
   open_reads (Err g) o c e = cc
+
+-- the packet that lies in the work buffer
+pub packet_lies : (o : Opened) (p : Packet) (work : List ℕ) (n : ℕ) → packet_with o p.bytes ≡ p → o.place ≡ 10 → o.count ≡ length p.bytes
+    → p ≡ fields (take n work) → 10 ≤ n → n ≤ length work → packet_in o work ≡ fields (take n work)
+unfolding fields
+packet_lies o p work n e a b f l m =
+    let q : p.bytes ≡ drop 10 (take n work) = ap (λ (x : Packet). x.bytes) f in
+    let k : o.place + o.count ≡ n = omega (arith, a, b, l, ap length q, length-drop 10 (take n work), length-take-le n work m) in
+    ap (packet_with o) (sym (drop-take o.place o.count work) ∙ ap₂ (λ i j. drop i (take j work)) a k ∙ sym q) ∙ e ∙ f
+
+abbrev key_packet : ℕ → ℕ → List ℕ → KeyPacket
+key_packet t v k = record { kt = t; kv = v; key = k }
+
+pub key_lies : (work : List ℕ) → key_packet (get_or work 0 0) (get_or work 1 0) (take 16 (drop 2 work)) ≡ key_fields (take 18 work)
+unfolding key_fields
+key_lies work =
+    ap₂ (λ t v. key_packet t v (take 16 (drop 2 work))) (sym (get_or-take 18 work 0 0 (omega arith))) (sym (get_or-take 18 work 1 0 (omega arith)))
+    ∙ ap (key_packet _ _) (sym (drop-take 2 16 work))

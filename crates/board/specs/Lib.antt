@@ -2,6 +2,8 @@ pub mod Progress
 pub mod Reading
 pub mod Wiped
 pub mod Opening
+pub mod States
+pub mod Keys
 pub mod Judging
 pub mod Outcomes
 pub mod Answers

@@ -1,6 +1,5 @@
--- What opening a packet comes to.
+-- What opening a packet comes to, and what lies in the work buffer then.
 use Rattle.std.specs.Prelude.{ℕ, List, Ok, Err, Result}
-use Rattle.std.specs.Borrow.{Bor}
 use Rattle.fault.specs.Checks.{then}
 use Rattle.fault.specs.declared.Fault.{Fault}
 use Rattle.cipher.specs.Cipher.{Cipher, iv_checked}
@@ -11,7 +10,7 @@ use Rattle.rules.specs.Board.{on_opened}
 abbrev pub opened_by : {A : Type 0} → Cipher → (List ℕ → A) → List ℕ → List ℕ → Result A Fault
 opened_by C f key core = then (iv_checked C (iv_of core)) (on_opened (λ c. Ok (f c)) (C.opened key (iv_of core) (body_of core)))
 
--- an answer, with what lies behind its reference
-abbrev pub behind : Result (Bor (List ℕ)) Fault → Result (List ℕ) Fault
-behind (Ok r) = Ok r.now
-behind (Err f) = Err f
+-- an answer, with what lies in the work buffer
+abbrev pub lying : {X Y : Type 0} → (X → List ℕ → Y) → List ℕ → Result X Fault → Result Y Fault
+lying f work (Ok x) = Ok (f x work)
+lying f work (Err e) = Err e

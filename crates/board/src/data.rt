@@ -1,64 +1,36 @@
-// The states of a data packet, moved from one to the next and never copied. Only this module and those below it can make one, so
-// nothing is stored that was not opened and judged.
-ghost use Rattle.std.specs.Prelude.{◌≡◌};
-ghost use Rattle.rules.specs.Board.{fields};
-ghost use Rattle.board.specs.Opening.{opened_by};
+// The states of a data packet: plain numbers, moved from one to the next and never copied. Only this module and those below it can
+// make one, so nothing is stored that was not opened and judged.
+ghost use Rattle.std.specs.Prelude.{◌≡◌, ◌+◌, ◌≤◌, true, is_ok};
+ghost use Rattle.memory.specs.Areas.{range_checked};
 
-use crate::sealed::SealedData;
-use crate::work::WORK;
-use cipher::PacketCipher;
-use fault::Fault;
-use std::marker::Model;
-
-mod fields;
 mod judge;
+mod open;
 mod store;
 
-// Opened contents: VER, PN, NP, RSV, address, then the data, where they lie in the work buffer.
+// The fields of opened contents; the data lie in the work buffer, from a place on.
 #[derive(Drop)]
-pub(crate) struct Opened<'w> {
-    bytes: &'w [u8],
-}
-
-impl<'w> Model for Opened<'w> {
-    ghost use Rattle.std.specs.Prelude.{◌<◌, length};
-    ghost use Rattle.rules.specs.Board.{Packet, fields};
-
-    ghost Value = { Packet };
-
-    ghost view = { λ o. fields o.bytes.now };
-
-    ghost invariant = { λ o. 10 < length o.bytes.now };
+pub(crate) struct Opened {
+    ver: u8,
+    pn: u16,
+    np: u16,
+    address: u32,
+    place: usize,
+    count: usize,
+    ghost within: { place + count ≤ 266 },
 }
 
 // Opened contents that passed all checks.
 #[derive(Drop)]
-pub(crate) struct Judged<'w> {
-    opened: Opened<'w>,
+pub(crate) struct Judged {
+    opened: Opened,
+    ghost numbered: { opened.pn ≤ opened.np },
+    ghost inside: { is_ok (range_checked opened.address opened.count) ≡ true },
 }
 
-impl<'w> Model for Judged<'w> {
-    ghost use Rattle.std.specs.Prelude.{◌≡◌, ◌≤◌, length, true, is_ok};
-    ghost use Rattle.memory.specs.Areas.{range_checked};
-    ghost use Rattle.rules.specs.Board.{Packet};
-
-    ghost Value = { Packet };
-
-    ghost view = { λ j. j.opened };
-
-    ghost invariant = { λ j. (j.opened.pn ≤ j.opened.np) × (is_ok (range_checked j.opened.address (length j.opened.bytes)) ≡ true) };
-}
-
-impl<'w> Opened<'w> {
-    // Opens the packet into the work buffer.
-    pub(crate) fn open<C: PacketCipher>(
-        sealed: SealedData,
-        key: &[u8; 16],
-        work: &'w mut [u8; WORK],
-    ) -> Result<Opened<'w>, Fault>
-        ensures { result ≡ opened_by C.cipher fields key.now sealed.entry }
-    {
-        let bytes = sealed.contents::<C>(key, work)?;
-        Ok(Opened { bytes })
-    }
+// What is left of contents once they are stored.
+#[derive(Drop)]
+pub(crate) struct Stored {
+    pn: u16,
+    np: u16,
+    ghost numbered: { pn ≤ np },
 }

@@ -1,11 +1,13 @@
 // The receiving core: a board over any memory and any packet cipher, its four calls, and runs of calls. Its parts are the receiver, the
-// guard over the work buffer, and the packet path: a sealed packet is opened, judged and stored, each state used up by the next.
+// guard over the work buffer, the reader over opened contents, and the packet path: a sealed packet is opened, judged and stored, each
+// state used up by the next.
 #![tactic(auto)]
 
 mod answer;
 mod board;
 mod boot;
 mod calls;
+mod contents;
 mod core_command;
 mod data;
 mod device;

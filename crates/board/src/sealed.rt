@@ -1,71 +1,62 @@
 // A sealed packet of either kind, which opening uses up.
-ghost use Rattle.std.specs.Prelude.{◌≡◌, ◌+◌, ◌≤◌, length, IfOk, Ok};
-ghost use Rattle.fault.specs.Checks.{then};
+ghost use Rattle.std.specs.Prelude.{◌≡◌, ◌+◌, ◌≤◌, length, take, IfOk};
 ghost use Rattle.rules.specs.Packets.{body_of, iv_of};
 ghost use Rattle.board.specs.Judging.{sized};
-ghost use Rattle.board.specs.Opening.{behind, opened_by};
+ghost use Rattle.board.specs.Opening.{lying, opened_by};
+ghost use Rattle.board.specs.Outcomes.{done};
 
 use crate::core_command::CoreCommand;
 use crate::work::WORK;
 use cipher::PacketCipher;
 use fault::Fault;
-use std::marker::Model;
 
-// A core command of a length that the kind has.
+// A packet of a length that its kind has.
 #[derive(Drop)]
-pub(crate) struct Sealed<'a, const LEAST: usize, const MOST: usize> {
-    core: CoreCommand<'a>,
+pub(crate) struct Sealed<const LEAST: usize, const MOST: usize> {
+    length: usize,
+    ghost sized: { (LEAST ≤ length) × (length ≤ MOST) },
 }
 
-impl<'a, const LEAST: usize, const MOST: usize> Model for Sealed<'a, LEAST, MOST> {
-    ghost use Rattle.std.specs.Prelude.{ℕ, ◌≤◌, List, length};
+pub(crate) type SealedData = Sealed<44, 299>;
 
-    ghost Value = { List ℕ };
+pub(crate) type SealedKey = Sealed<51, 51>;
 
-    ghost view = { λ s. s.core.buffer.now };
-
-    ghost invariant = { λ s. (LEAST ≤ length s.core.buffer.now) × (length s.core.buffer.now ≤ MOST) };
+// The IV of a packet, and its body.
+fn parts<'a>(core: CoreCommand<'a>) -> (&'a [u8; 16], &'a [u8])
+    requires { 17 ≤ length core.buffer.now }
+    ensures iv { result.0.now ≡ iv_of core.entry.buffer.now }
+    ensures body { result.1.now ≡ body_of core.entry.buffer.now }
+{
+    core.bytes()[1..].split_first_chunk().unwrap()
 }
 
-pub(crate) type SealedData<'a> = Sealed<'a, 44, 299>;
-
-pub(crate) type SealedKey<'a> = Sealed<'a, 51, 51>;
-
-impl<'a, const LEAST: usize, const MOST: usize> Sealed<'a, LEAST, MOST> {
+impl<const LEAST: usize, const MOST: usize> Sealed<LEAST, MOST> {
     // The packet in a core command; refused where the kind has no such length.
-    pub(crate) fn of(core: CoreCommand<'a>) -> Result<Sealed<'a, LEAST, MOST>, Fault>
-        ensures { result ≡ then (sized LEAST MOST core.entry.buffer.now) (Ok core.entry.buffer.now) }
+    pub(crate) fn of(core: CoreCommand) -> Result<Sealed<LEAST, MOST>, Fault>
+        ensures value { done result ≡ sized LEAST MOST core.entry.buffer.now }
+        ensures long { IfOk result (λ s. s.length ≡ length core.entry.buffer.now) }
     {
         let length = core.bytes().len();
         if length < LEAST || length > MOST {
             return Err(Fault::PacketLength(length as u16));
         }
-        Ok(Sealed { core })
+        Ok(Sealed { length })
     }
 
-    // The IV of the packet, and its body.
-    fn parts(&self) -> (&'a [u8; 16], &'a [u8])
-        requires { 17 ≤ LEAST }
-        ensures iv { result.0.now ≡ iv_of self.now }
-        ensures body { result.1.now ≡ body_of self.now }
-        ensures sized { (LEAST ≤ length self.now) × (length self.now ≤ MOST) }
-    {
-        self.core.bytes()[1..].split_first_chunk().unwrap()
-    }
-
-    // Opens the packet into the work buffer; its contents lie there.
-    pub(crate) fn contents<'w, C: PacketCipher>(
+    // Opens the packet into the work buffer, and says how many bytes its contents have.
+    pub(crate) fn open<C: PacketCipher>(
         self,
+        core: CoreCommand,
         key: &[u8; 16],
-        work: &'w mut [u8; WORK],
-    ) -> Result<&'w [u8], Fault>
-        requires { 17 ≤ LEAST }
-        ensures value { behind result ≡ opened_by C.cipher (λ c. c) key.now self.entry }
-        ensures long { IfOk result (λ c. (LEAST ≤ length c.now + 33) × (length c.now + 33 ≤ MOST)) }
+        work: &mut [u8; WORK],
+    ) -> Result<usize, Fault>
+        requires least { 17 ≤ LEAST }
+        requires core { self.length ≡ length core.buffer.now }
+        ensures value { lying take work.new result ≡ opened_by C.cipher (λ c. c) key.now core.entry.buffer.now }
+        ensures long { IfOk result (λ n. n + 33 ≡ self.entry.length) }
     {
-        let (iv, body) = self.parts();
+        let (iv, body) = parts(core);
         C::check_iv(iv)?;
-        let n = C::open(key, iv, body, work)?;
-        Ok(&work[..n])
+        C::open(key, iv, body, work)
     }
 }

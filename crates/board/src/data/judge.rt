@@ -1,65 +1,66 @@
 // Judging opened contents: the numbers, their turn, and the addresses of the data.
-ghost use Rattle.std.specs.Prelude.{◌≡◌};
+ghost use Rattle.std.specs.Prelude.{◌≡◌, ℕ, List, [], length};
 ghost use Rattle.rules.specs.Board.{may_open, may_follow};
 ghost use Rattle.board.specs.Judging.{judge_by, numbers_checked, turn_checked};
+ghost use Rattle.board.specs.Opening.{lying};
+ghost use Rattle.board.specs.States.{judged_in, packet_in, packet_with};
 
 use super::{Judged, Opened};
 use fault::Fault;
 use memory::{Held, check_range};
 use rules::Session;
 
-#[tactic(auto, unfolding(rules::specs::Board::may_open, rules::specs::Board::may_follow, rules::specs::Board::judge_fields))]
-impl<'w> Opened<'w> {
+impl Opened {
     fn check_numbers(&self) -> Result<(), Fault>
-        ensures { result ≡ numbers_checked self.now }
+        ensures { result ≡ numbers_checked (packet_with self.now []) }
     {
-        let pn = self.pn();
-        let np = self.np();
-        if pn == 0 || np == 0 || pn > np {
-            return Err(Fault::BadNumber(pn));
+        if self.pn == 0 || self.np == 0 || self.pn > self.np {
+            return Err(Fault::BadNumber(self.pn));
         }
         Ok(())
     }
 
     // Whether a first packet may open an update.
+    #[tactic(auto, unfolding(rules::specs::Board::may_open))]
     fn may_open(&self, held: &Held) -> bool
-        ensures { result ≡ may_open held.now self.now }
+        ensures { (bs : List ℕ) → result ≡ may_open held.now (packet_with self.now bs) }
     {
-        held.version < self.ver() || self.ver() == held.version && held.unfinished
+        held.version < self.ver || self.ver == held.version && held.unfinished
     }
 
     // Whether any other packet is the session's next.
+    #[tactic(auto, unfolding(rules::specs::Board::may_follow))]
     fn may_follow(&self, session: &Session, held: &Held) -> bool
-        ensures { result ≡ may_follow session.now held.now self.now }
+        ensures { (bs : List ℕ) → result ≡ may_follow session.now held.now (packet_with self.now bs) }
     {
         match *session {
             Session::Closed => false,
             Session::Expects(next, last) => {
-                self.pn() == next && self.np() == last && self.ver() == held.version
+                self.pn == next && self.np == last && self.ver == held.version
             }
         }
     }
 
     fn check_turn(&self, session: &Session, held: &Held) -> Result<(), Fault>
-        ensures { result ≡ turn_checked session.now held.now self.now }
+        ensures { (bs : List ℕ) → result ≡ turn_checked session.now held.now (packet_with self.now bs) }
     {
-        if self.pn() == 1 {
+        if self.pn == 1 {
             if !self.may_open(held) {
-                return Err(Fault::MayNotOpen(self.pn()));
+                return Err(Fault::MayNotOpen(self.pn));
             }
         } else if !self.may_follow(session, held) {
-            return Err(Fault::OutOfTurn(self.pn()));
+            return Err(Fault::OutOfTurn(self.pn));
         }
         Ok(())
     }
 
-    // All checks of the fields; the contents are used up, and come out judged.
-    pub(crate) fn judge(self, session: &Session, held: &Held) -> Result<Judged<'w>, Fault>
-        ensures { result ≡ judge_by session.now held.now self.entry }
+    // All checks of the fields, whatever the data are; the contents are used up, and come out judged.
+    pub(crate) fn judge(self, session: &Session, held: &Held) -> Result<Judged, Fault>
+        ensures { (work : List ℕ) → length work ≡ 266 → lying judged_in work result ≡ judge_by session.now held.now (packet_in self work) }
     {
         self.check_numbers()?;
         self.check_turn(session, held)?;
-        check_range(self.address(), self.data().len())?;
+        check_range(self.address, self.count)?;
         Ok(Judged { opened: self })
     }
 }

@@ -26,11 +26,11 @@ impl<M: Memory> Device<M> {
         let sealed = SealedData::of(core)?;
         let held = self.memory.record();
         let current = held.keys[0];
-        let opened = Opened::open::<C>(sealed, &current.key, work)?;
+        let opened = Opened::open::<C>(sealed, core, &current.key, work)?;
         let judged = opened.judge(&self.session, &held)?;
         self.session = Session::Closed;
-        let next = judged.store(&mut self.memory)?;
-        self.session = next;
+        let stored = judged.store(&mut self.memory, work)?;
+        self.session = stored.session();
         Ok(())
     }
 
@@ -45,11 +45,11 @@ impl<M: Memory> Device<M> {
         let sealed = SealedKey::of(core)?;
         let held = self.memory.record();
         let kek = held.keys[1];
-        let opened = OpenedKey::open::<C>(sealed, &kek.key, work)?;
+        let opened = OpenedKey::open::<C>(sealed, core, &kek.key, work)?;
         let judged = opened.judge(&held)?;
         let current = self.session;
         self.session = Session::Closed;
-        judged.store(&mut self.memory)?;
+        judged.store(&mut self.memory, work)?;
         self.session = current;
         Ok(())
     }

@@ -1,23 +1,30 @@
 // Storing a judged key, which uses the contents up.
-ghost use Rattle.std.specs.Prelude.{◌≡◌};
+ghost use Rattle.std.specs.Prelude.{◌≡◌, take, drop};
 ghost use Rattle.memory.specs.Meaning.{Performs};
-ghost use Rattle.rules.specs.Board.{key_steps};
+ghost use Rattle.board.specs.Keys.{key_step};
 
 use super::JudgedKey;
+use crate::work::WORK;
 use fault::Fault;
 use memory::{KeyRecord, Memory};
 
-impl JudgedKey<'_> {
-    // Makes the one storing step of the packet.
-    pub(crate) fn store<M: Memory>(self, memory: &mut M) -> Result<(), Fault>
-        ensures { Performs (key_steps self.entry) (M.meaning memory.old) (M.meaning memory.new) result }
+impl JudgedKey {
+    // The key, which lies in the work buffer.
+    fn key(&self, work: &[u8; WORK]) -> [u8; 16]
+        ensures { result ≡ take 16 (drop self.now.place work.now) }
     {
-        let JudgedKey { opened, slot } = self;
+        *work[self.place..].first_chunk().unwrap()
+    }
+
+    // Makes the one storing step of the packet, whose key lies in the work buffer.
+    pub(crate) fn store<M: Memory>(self, memory: &mut M, work: &[u8; WORK]) -> Result<(), Fault>
+        ensures { Performs (key_step self work.now) (M.meaning memory.old) (M.meaning memory.new) result }
+    {
         memory.set_key(
-            slot,
+            self.slot,
             KeyRecord {
-                key: opened.key(),
-                version: opened.kv(),
+                key: self.key(work),
+                version: self.kv,
             },
         )
     }

@@ -1,7 +1,8 @@
 use Rattle.std.proofs.Common.{refl}
 use Rattle.memory.proofs.Exits.{passed_on}
-use Rattle.board.proofs.Judging.{key_judged, key_shut, key_unsized}
+use Rattle.board.proofs.Judging.{key_failed, key_passed, key_shut, key_unsized}
 use Rattle.board.proofs.Outcome.{key_dark, key_refuses, key_well}
+use Rattle.board.proofs.Stepping.{done_on}
 use Rattle.board.proofs.device.Device.take_key.Goals as goal
 
 pub returns-in_err-sealed : goal.returns-in_err-sealed
@@ -9,7 +10,8 @@ returns-in_err-sealed g c =
     let C = g.C.PacketCipher.cipher in
     let w = c.args.self.now in
     let core = c.args.core.buffer.now in
-    key_refuses C w w.memory w.memory w.memory w.session refl refl core _ _ (passed_on _ _ c.from_residual.ensures.1) (key_unsized C w w.memory w.session refl w.memory.contents.held refl core _ c.in_err-sealed.ensures)
+    key_refuses C w w.memory w.memory w.memory w.session refl refl core _ _ (passed_on _ _ c.from_residual.ensures.1)
+    (key_unsized C w w.memory w.session refl w.memory.contents.held refl core _ c.in_err-sealed.ensures.value)
 
 pub returns-in_err-opened : goal.returns-in_err-opened
 returns-in_err-opened g c =
@@ -18,7 +20,7 @@ returns-in_err-opened g c =
     let core = c.args.core.buffer.now in
     let h = c.record-held in
     key_refuses C w _ _ w.memory _ c.self.view_is h.ensures.same core _ _ (passed_on _ _ c.from_residual-in_err-opened.ensures.1)
-    (key_shut C w _ _ c.self.view_is h.result h.ensures.value core _ c.in_ok-sealed.ensures _ c.in_err-opened.ensures)
+    (key_shut C w _ _ c.self.view_is h.result h.ensures.value core c.in_ok-sealed.ensures.value _ c.in_err-opened.ensures)
 
 pub returns-in_err-judged : goal.returns-in_err-judged
 returns-in_err-judged g c =
@@ -27,7 +29,7 @@ returns-in_err-judged g c =
     let core = c.args.core.buffer.now in
     let h = c.record-held in
     key_refuses C w _ _ w.memory _ c.self.view_is h.ensures.same core _ _ (passed_on _ _ c.from_residual-in_err-judged.ensures.1)
-    (key_judged C w _ _ c.self.view_is h.result h.ensures.value core _ c.in_ok-sealed.ensures _ c.in_ok-opened.ensures _ c.in_err-judged.ensures)
+    (key_failed C w _ _ c.self.view_is h.result h.ensures.value core c.in_ok-sealed.ensures.value _ c.in_ok-opened.ensures _ (c.in_err-judged.ensures c.open.new.work))
 
 pub returns-in_err-store : goal.returns-in_err-store
 returns-in_err-store g c =
@@ -35,9 +37,9 @@ returns-in_err-store g c =
     let w = c.args.self.now in
     let core = c.args.core.buffer.now in
     let h = c.record-held in
-    key_dark C w _ _ _ _ c.self.view_is h.ensures.same core _
-    (key_judged C w _ _ c.self.view_is h.result h.ensures.value core _ c.in_ok-sealed.ensures _ c.in_ok-opened.ensures _ c.in_ok-judged.ensures)
-    _ _ (passed_on _ _ c.from_residual-in_err-store.ensures.1) c.in_err-store.ensures
+    let p = key_passed C w _ _ c.self.view_is h.result h.ensures.value core c.in_ok-sealed.ensures.value _ c.in_ok-opened.ensures _ (c.in_ok-judged.ensures c.open.new.work) in
+    key_dark C w _ _ _ _ c.self.view_is h.ensures.same core p.0 p.1.0 _ _ (passed_on _ _ c.from_residual-in_err-store.ensures.1)
+    (done_on _ _ _ _ _ _ p.1.1 refl c.in_err-store.ensures)
 
 pub returns : goal.returns
 returns g c =
@@ -45,6 +47,5 @@ returns g c =
     let w = c.args.self.now in
     let core = c.args.core.buffer.now in
     let h = c.record-held in
-    key_well C w _ _ _ _ c.self.view_is h.ensures.same core _
-    (key_judged C w _ _ c.self.view_is h.result h.ensures.value core _ c.in_ok-sealed.ensures _ c.in_ok-opened.ensures _ c.in_ok-judged.ensures)
-    c.in_ok-store.ensures
+    let p = key_passed C w _ _ c.self.view_is h.result h.ensures.value core c.in_ok-sealed.ensures.value _ c.in_ok-opened.ensures _ (c.in_ok-judged.ensures c.open.new.work) in
+    key_well C w _ _ _ _ c.self.view_is h.ensures.same core p.0 p.1.0 (done_on _ _ _ _ _ _ p.1.1 refl c.in_ok-store.ensures)

@@ -1,11 +1,18 @@
-use Rattle.std.proofs.Common.{◌∙◌}
+use Rattle.std.proofs.Common.{◌≡◌, take, Ok, ap, ◌∙◌, arith}
 use Rattle.memory.proofs.Exits.{passed_on}
 use Rattle.rules.specs.Board.{key_fields}
-use Rattle.board.proofs.Opening.{open_fails, open_reads}
+use Rattle.board.specs.Keys.{key_in}
+use Rattle.board.specs.Opening.{lying}
+use Rattle.board.proofs.Opening.{key_lies, open_fails, open_reads}
 use Rattle.board.proofs.key.OpenedKey.open.Goals as goal
 
-pub returns-in_err-bytes : goal.returns-in_err-bytes
-returns-in_err-bytes g c = passed_on _ _ c.from_residual.ensures.1 ∙ open_fails key_fields _ _ _ c.in_err-bytes.ensures.value
+pub returns-in_err-open : goal.returns-in_err-open
+returns-in_err-open g c = ap (lying key_in c.open.new.work) (passed_on _ _ c.from_residual.ensures.1) ∙ open_fails key_fields _ _ _ c.in_err-open.ensures.value
 
 pub returns : goal.returns
-returns g c = open_reads key_fields _ _ _ c.in_ok-bytes.ensures.value
+returns g c =
+    let e = c.in_ok-open.ensures in
+    let work = c.open.new.work in
+    let n = c.in_ok-open.field-0 in
+    let z : 18 ≡ n = omega (arith, e.long, c.args.sealed.sized) in
+    ap Ok (key_lies work) ∙ ap (λ k. Ok (key_fields (take k work))) z ∙ open_reads key_fields _ _ _ e.value

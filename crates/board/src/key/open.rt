@@ -1,0 +1,32 @@
+// Opening a key packet, which uses it up.
+ghost use Rattle.std.specs.Prelude.{◌≡◌, length};
+ghost use Rattle.rules.specs.Board.{key_fields};
+ghost use Rattle.board.specs.Keys.{key_in};
+ghost use Rattle.board.specs.Opening.{lying, opened_by};
+
+use super::OpenedKey;
+use crate::core_command::CoreCommand;
+use crate::sealed::SealedKey;
+use crate::work::WORK;
+use cipher::PacketCipher;
+use fault::Fault;
+
+impl OpenedKey {
+    // Opens the packet in a core command into the work buffer, and reads its fields there.
+    pub(crate) fn open<C: PacketCipher>(
+        sealed: SealedKey,
+        core: CoreCommand,
+        key: &[u8; 16],
+        work: &mut [u8; WORK],
+    ) -> Result<OpenedKey, Fault>
+        requires { sealed.length ≡ length core.buffer.now }
+        ensures { lying key_in work.new result ≡ opened_by C.cipher key_fields key.now core.entry.buffer.now }
+    {
+        sealed.open::<C>(core, key, work)?;
+        Ok(OpenedKey {
+            kt: work[0],
+            kv: work[1],
+            place: 2,
+        })
+    }
+}
