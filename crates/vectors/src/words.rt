@@ -1,9 +1,11 @@
 // The words of a case that several kinds of cases have.
 ghost use Rattle.std.specs.Prelude.{◌≡◌};
+ghost use Rattle.std.specs.Result.{result_ok};
 ghost use Rattle.text.specs.Decimal.{decimal_read};
 ghost use Rattle.vectors.specs.Words.{data_read, key_read, mode_read, sealing_read};
 
 use packer::{DataPacket, KeyPacket};
+use std::str::FromStr;
 use text::decimal::decimal;
 use text::hex::hex_block;
 
@@ -45,31 +47,17 @@ impl DataFields {
     }
 }
 
-fn mode_of(word: &str) -> Option<Mode>
-    ensures { result ≡ mode_read word.now }
-{
-    match word {
-        "ccm" => Some(Mode::Ccm),
-        "gcm" => Some(Mode::Gcm),
-        _ => None,
-    }
-}
+impl FromStr for Mode {
+    type Err = ();
 
-fn byte_of(word: &str) -> Option<u8>
-    ensures { result ≡ decimal_read 255 word.now }
-{
-    match decimal(word.as_bytes(), 255) {
-        Some(n) => Some(n as u8),
-        None => None,
-    }
-}
+    ghost from_str_gives = { λ word r. result_ok r ≡ mode_read word };
 
-fn word_of(text: &str) -> Option<u16>
-    ensures { result ≡ decimal_read 65535 text.now }
-{
-    match decimal(text.as_bytes(), 65535) {
-        Some(n) => Some(n as u16),
-        None => None,
+    fn from_str(word: &str) -> Result<Self, ()> {
+        match word {
+            "ccm" => Ok(Mode::Ccm),
+            "gcm" => Ok(Mode::Gcm),
+            _ => Err(()),
+        }
     }
 }
 
@@ -77,10 +65,7 @@ fn word_of(text: &str) -> Option<u16>
 pub fn room_of(word: &str) -> Option<usize>
     ensures { result ≡ decimal_read 4294967295 word.now }
 {
-    match decimal(word.as_bytes(), u32::MAX) {
-        Some(n) => Some(n as usize),
-        None => None,
-    }
+    Some(decimal(word.as_bytes(), u32::MAX)? as usize)
 }
 
 // CIPHER, KEY or KEK, IV.
@@ -88,7 +73,7 @@ pub fn sealing_of(cipher: &str, key: &str, iv: &str) -> Option<Sealing>
     ensures { result ≡ sealing_read cipher.now key.now iv.now }
 {
     Some(Sealing {
-        mode: mode_of(cipher)?,
+        mode: cipher.parse().ok()?,
         key: hex_block(key.as_bytes())?,
         iv: hex_block(iv.as_bytes())?,
     })
@@ -99,9 +84,9 @@ pub fn data_fields(ver: &str, pn: &str, np: &str, address: &str, room: &str) -> 
     ensures { result ≡ data_read ver.now pn.now np.now address.now room.now }
 {
     Some(DataFields {
-        version: byte_of(ver)?,
-        number: word_of(pn)?,
-        count: word_of(np)?,
+        version: decimal(ver.as_bytes(), 255)? as u8,
+        number: decimal(pn.as_bytes(), 65535)? as u16,
+        count: decimal(np.as_bytes(), 65535)? as u16,
         address: decimal(address.as_bytes(), u32::MAX)?,
         room: room_of(room)?,
     })
@@ -112,8 +97,8 @@ pub fn key_packet(kt: &str, kv: &str, key: &str) -> Option<KeyPacket>
     ensures { result ≡ key_read kt.now kv.now key.now }
 {
     Some(KeyPacket {
-        kind: byte_of(kt)?,
-        version: byte_of(kv)?,
+        kind: decimal(kt.as_bytes(), 255)? as u8,
+        version: decimal(kv.as_bytes(), 255)? as u8,
         key: hex_block(key.as_bytes())?,
     })
 }
