@@ -11,21 +11,18 @@ use std::io::{BufWriter, Write};
 use texts::push_bytes;
 
 // Appends the row of an answer: bytes, or the refusal, or that the line is no case.
-fn push_answer(rt: &HostRuntime, out: &mut Vec<u8>, answer: &Option<Answer>) -> anyhow::Result<()> {
+fn push_answer(rt: &HostRuntime, out: &mut String, answer: &Option<Answer>) -> anyhow::Result<()> {
     match answer {
-        None => out.extend_from_slice(b"malformed")?,
+        None => out.push_str("malformed")?,
         Some(Ok(bytes)) => push_bytes(out, bytes.as_slice())?,
-        Some(Err(fault)) => {
-            let text = format!(in rt.alloc(); "refused {} {}", fault.number(), fault.place())?;
-            out.extend_from_slice(text.as_bytes())?;
-        }
+        Some(Err(fault)) => write!(out, "refused {} {}", fault.number(), fault.place())?,
     }
-    out.push(b'\n')?;
+    out.push('\n')?;
     Ok(())
 }
 
 // The row of a line.
-fn push_row(rt: &HostRuntime, out: &mut Vec<u8>, line: &str) -> anyhow::Result<()> {
+fn push_row(rt: &HostRuntime, out: &mut String, line: &str) -> anyhow::Result<()> {
     let mut words = Vec::new(rt.alloc());
     for word in line.split(' ') {
         words.push(word)?;
@@ -35,14 +32,14 @@ fn push_row(rt: &HostRuntime, out: &mut Vec<u8>, line: &str) -> anyhow::Result<(
 }
 
 fn main(rt: HostRuntime) -> anyhow::Result<()> {
-    let mut out = Vec::new(rt.alloc());
+    let mut out = String::new(rt.alloc());
     for line in rt.lines(rt.alloc()) {
         push_row(&rt, &mut out, line?.as_str())?;
         if out.len() > 65536 {
-            rt.stdout().write_all(&out)?;
+            rt.stdout().write_all(out.as_bytes())?;
             out.clear();
         }
     }
-    rt.stdout().write_all(&out)?;
+    rt.stdout().write_all(out.as_bytes())?;
     Ok(())
 }
