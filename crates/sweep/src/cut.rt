@@ -55,7 +55,7 @@ fn ask_after<M: Memory, C: PacketCipher>(
 }
 
 // Cuts the power of a board over a memory behind so many steps of what is sent.
-pub fn cut_power<M: Memory>(
+pub(crate) fn cut_power<M: Memory>(
     heap: Global,
     memory: &mut M,
     calls: &[Event],
@@ -71,7 +71,7 @@ pub fn cut_power<M: Memory>(
 }
 
 // Sends again, with power without end, and says what the board says then.
-pub fn again<M: Memory>(
+pub(crate) fn again<M: Memory>(
     heap: Global,
     memory: &mut M,
     calls: &[Event],
@@ -80,7 +80,7 @@ pub fn again<M: Memory>(
 }
 
 // How many storing steps the calls take, with a supply that is larger.
-pub fn steps_of<M: Memory>(
+pub(crate) fn steps_of<M: Memory>(
     heap: Global,
     memory: &mut M,
     calls: &[Event],

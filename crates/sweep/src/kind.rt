@@ -39,7 +39,7 @@ fn prepare<M: Memory + Drop>(mut memory: M, version: u8) -> anyhow::Result<()> {
 
 impl Kind {
     // Fills an image, and lays the program of a version over it.
-    pub fn prepare(self, image: &mut [u8], held: Held, version: u8) -> anyhow::Result<()> {
+    pub(crate) fn prepare(self, image: &mut [u8], held: Held, version: u8) -> anyhow::Result<()> {
         let lent = LentImage::over(image, held, Supply::NoEnd)?;
         match self {
             Kind::Lent => prepare(lent, version),
@@ -47,7 +47,7 @@ impl Kind {
         }
     }
 
-    pub fn steps_of(
+    pub(crate) fn steps_of(
         self,
         heap: Global,
         image: &mut [u8],
@@ -62,7 +62,7 @@ impl Kind {
         Ok(steps)
     }
 
-    pub fn cut(
+    pub(crate) fn cut(
         self,
         heap: Global,
         image: &mut [u8],
@@ -78,7 +78,7 @@ impl Kind {
         Ok(done)
     }
 
-    pub fn again(
+    pub(crate) fn again(
         self,
         heap: Global,
         image: &mut [u8],

@@ -54,7 +54,7 @@ fn push_erase(events: &mut Vec<Event>) -> anyhow::Result<()> {
 }
 
 // An update over an old program; the update is sent again.
-pub fn update_plan(heap: Global) -> anyhow::Result<Plan> {
+pub(crate) fn update_plan(heap: Global) -> anyhow::Result<Plan> {
     let mut cut = Vec::new(heap);
     push_update(&mut cut, &KEY)?;
     let again = cut.clone()?;
@@ -66,7 +66,7 @@ pub fn update_plan(heap: Global) -> anyhow::Result<Plan> {
 }
 
 // A new data key; the key is sent again, and an update under it.
-pub fn key_plan(heap: Global) -> anyhow::Result<Plan> {
+pub(crate) fn key_plan(heap: Global) -> anyhow::Result<Plan> {
     let mut cut = Vec::new(heap);
     push_key(&mut cut)?;
     let mut again = cut.clone()?;
@@ -79,7 +79,7 @@ pub fn key_plan(heap: Global) -> anyhow::Result<Plan> {
 }
 
 // A mass erase; an update is sent.
-pub fn erase_plan(heap: Global) -> anyhow::Result<Plan> {
+pub(crate) fn erase_plan(heap: Global) -> anyhow::Result<Plan> {
     let mut cut = Vec::new(heap);
     push_erase(&mut cut)?;
     let mut again = Vec::new(heap);

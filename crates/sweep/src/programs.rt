@@ -24,7 +24,7 @@ fn fill_area<M: Memory>(memory: &mut M, area: &Area) -> Result<(), Fault> {
 }
 
 // Fills the map.
-pub fn fill<M: Memory>(memory: &mut M) -> Result<(), Fault> {
+pub(crate) fn fill<M: Memory>(memory: &mut M) -> Result<(), Fault> {
     for area in AREAS.iter() {
         fill_area(memory, area)?;
     }

@@ -42,7 +42,7 @@ fn is_either(image: &[u8], first: &[u8], second: &[u8]) -> bool
 }
 
 impl Images {
-    pub fn new(heap: Global, kind: Kind, held: Held) -> anyhow::Result<Images> {
+    pub(crate) fn new(heap: Global, kind: Kind, held: Held) -> anyhow::Result<Images> {
         let mut earlier = vec![in heap; 0u8; 61056]?;
         kind.prepare(&mut earlier, held, 1)?;
         let mut later = vec![in heap; 0u8; 61056]?;
@@ -60,7 +60,7 @@ impl Images {
     }
 
     // How many storing steps the calls of a plan take on the old program.
-    pub fn steps_of(&mut self, heap: Global, plan: &Plan) -> anyhow::Result<u32> {
+    pub(crate) fn steps_of(&mut self, heap: Global, plan: &Plan) -> anyhow::Result<u32> {
         self.image.copy_from_slice(&self.earlier);
         self.kind
             .steps_of(heap, &mut self.image, self.held, &plan.cut)
@@ -79,7 +79,7 @@ impl Images {
     }
 
     // Cuts the power at a step of a plan, and notes what the board says.
-    pub fn cut(
+    pub(crate) fn cut(
         &mut self,
         heap: Global,
         plan: &Plan,

@@ -128,7 +128,7 @@ fn key_case(
 }
 
 // The answer to the words of a case.
-pub fn answer_to(heap: Global, words: &[&str]) -> Result<Option<Answer>, AllocError> {
+pub(crate) fn answer_to(heap: Global, words: &[&str]) -> Result<Option<Answer>, AllocError> {
     match words {
         ["block", key, block] => Ok(block_case(key, block)),
         ["seal", cipher, key, iv, contents] => seal_case(heap, cipher, key, iv, contents),
