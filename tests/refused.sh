@@ -28,6 +28,8 @@ expect store_unopened unknown-method
 expect store_unjudged unknown-method
 expect store_twice borrow-e0382
 expect store_forged private-field
+expect store_key_unjudged unknown-method
+expect store_key_twice borrow-e0382
 
 # the same crate with a harmless module builds, so that it is the texts that are refused
 printf '// Nothing.\n' > "$copy/crates/board/src/refused.rt"
