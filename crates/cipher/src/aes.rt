@@ -1,5 +1,5 @@
 // AES-128 (FIPS 197) as a block cipher: the key schedule and the cipher.
-ghost use Rattle.std.specs.Prelude.{◌≡◌, ℕ, List, length};
+ghost use Rattle.std.specs.Prelude.{◌≡◌};
 ghost use Rattle.cipher.specs.Aes.{aes};
 ghost use Rattle.cipher.specs.Columns.{Schedule};
 ghost use Rattle.cipher.specs.Schedules.{length_aes};
@@ -28,7 +28,7 @@ fn expanded(key: &[u8; 16]) -> [Columns; 11]
 {
     let mut k = Columns::from(key);
     let mut keys = [k; 11];
-    // By index: tried with `iter_mut`, zipped, where a loop's invariant can't name what was written.
+    // By an index into one side: tried with `iter_mut`, zipped, where a loop's invariant can't name what was written.
     for (i, constant) in RCON.iter().enumerate() {
         k = next_round_key(k, *constant);
         keys[i + 1] = k;

@@ -1,14 +1,12 @@
 // CCM (RFC 3610) over any block cipher: a nonce of 13 bytes, a tag of 16 and no associated data.
 ghost use Rattle.std.specs.Prelude.{◌≡◌, ◌<◌, ◌≤◌, length};
-ghost use Rattle.cipher.specs.Ccm.{first_block, mac, ccm_fixed, ccm_stream, ccm_tag, ccm};
+ghost use Rattle.cipher.specs.Ccm.{first_block, mac, ccm_fixed, ccm_stream, ccm_tag};
 ghost use Rattle.cipher.specs.Ccms.{ccm_lawful};
 ghost use Rattle.cipher.specs.Sealing.{xor_from};
 
 use crate::block::BlockCipher;
-use crate::mode::{Mode, check_fixed, open, seal};
-use crate::packet::PacketCipher;
+use crate::mode::Mode;
 use crate::session::{Session, add_into, block_of, counter_block};
-use fault::Fault;
 use std::marker::PhantomData;
 
 pub struct Ccm<B> {
@@ -58,12 +56,21 @@ fn add_key_stream<B: BlockCipher>(session: &Session<B>, data: &mut [u8])
     session.add_stream(1, data);
 }
 
-impl<B: BlockCipher> Mode<B> for Ccm<B> {
+impl<B: BlockCipher> Mode for Ccm<B> {
+    type Block = B;
+
     ghost fixed = { ccm_fixed };
 
     ghost stream = { ccm_stream };
 
     ghost tag = { ccm_tag };
+
+    // Of the packet cipher `ccm B.block`, which these three make.
+    ghost lawful = { ccm_lawful B.block B.size };
+
+    fn fixed() -> &'static [(u8, u8)] {
+        &FIXED
+    }
 
     fn encrypt(session: &Session<B>, contents: &mut [u8]) -> [u8; 16] {
         let tag = tag_of(session, contents);
@@ -75,23 +82,5 @@ impl<B: BlockCipher> Mode<B> for Ccm<B> {
         contents.copy_from_slice(covered);
         add_key_stream(session, contents);
         tag_of(session, contents)
-    }
-}
-
-impl<B: BlockCipher> PacketCipher for Ccm<B> {
-    ghost cipher = { ccm B.block };
-
-    ghost lawful = { ccm_lawful B.block B.size };
-
-    fn check_iv(iv: &[u8; 16]) -> Result<(), Fault> {
-        check_fixed(&FIXED, iv)
-    }
-
-    fn seal(key: &[u8; 16], iv: &[u8; 16], out: &mut [u8]) {
-        seal::<B, Self>(key, iv, out);
-    }
-
-    fn open(key: &[u8; 16], iv: &[u8; 16], body: &[u8], work: &mut [u8]) -> Result<usize, Fault> {
-        open::<B, Self>(key, iv, body, work)
     }
 }

@@ -1,16 +1,14 @@
 // GCM (SP 800-38D) over any block cipher: a nonce of 12 bytes, a tag of 16 and no associated data.
 ghost use Rattle.std.specs.Prelude.{◌≡◌, ◌≤◌, true, length};
-ghost use Rattle.cipher.specs.Gcm.{gcm_fixed, gcm_mac, gcm_stream, gcm_tag, gcm};
+ghost use Rattle.cipher.specs.Gcm.{gcm_fixed, gcm_mac, gcm_stream, gcm_tag};
 ghost use Rattle.cipher.specs.Gcms.{gcm_lawful};
 ghost use Rattle.cipher.specs.Sealing.{has_fixed, xor_from};
 
 mod ghash;
 
 use crate::block::BlockCipher;
-use crate::mode::{Mode, check_fixed, open, seal};
-use crate::packet::PacketCipher;
+use crate::mode::Mode;
 use crate::session::Session;
-use fault::Fault;
 use ghash::Factor;
 use std::marker::PhantomData;
 
@@ -44,12 +42,21 @@ fn add_key_stream<B: BlockCipher>(session: &Session<B>, data: &mut [u8])
     session.add_stream(2, data);
 }
 
-impl<B: BlockCipher> Mode<B> for Gcm<B> {
+impl<B: BlockCipher> Mode for Gcm<B> {
+    type Block = B;
+
     ghost fixed = { gcm_fixed };
 
     ghost stream = { gcm_stream };
 
     ghost tag = { gcm_tag };
+
+    // Of the packet cipher `gcm B.block`, which these three make.
+    ghost lawful = { gcm_lawful B.block B.size };
+
+    fn fixed() -> &'static [(u8, u8)] {
+        &FIXED
+    }
 
     fn encrypt(session: &Session<B>, contents: &mut [u8]) -> [u8; 16] {
         add_key_stream(session, contents);
@@ -60,23 +67,5 @@ impl<B: BlockCipher> Mode<B> for Gcm<B> {
         contents.copy_from_slice(covered);
         add_key_stream(session, contents);
         mac_of(session, covered)
-    }
-}
-
-impl<B: BlockCipher> PacketCipher for Gcm<B> {
-    ghost cipher = { gcm B.block };
-
-    ghost lawful = { gcm_lawful B.block B.size };
-
-    fn check_iv(iv: &[u8; 16]) -> Result<(), Fault> {
-        check_fixed(&FIXED, iv)
-    }
-
-    fn seal(key: &[u8; 16], iv: &[u8; 16], out: &mut [u8]) {
-        seal::<B, Self>(key, iv, out);
-    }
-
-    fn open(key: &[u8; 16], iv: &[u8; 16], body: &[u8], work: &mut [u8]) -> Result<usize, Fault> {
-        open::<B, Self>(key, iv, body, work)
     }
 }

@@ -1,17 +1,20 @@
-// What the modes share: an IV's fixed bytes, sealing in place, opening into a work buffer.
-ghost use Rattle.std.specs.Prelude.{◌≡◌, ℕ, ◌-◌, ◌<◌, ◌≤◌, Bool, true, false, List, ◌++◌, length, take, drop, replicate, Ok, Err, if◌then◌else◌, MatchOption};
+// What the modes share: each is a packet cipher by its IV's fixed bytes, its key stream and its tag.
+ghost use Rattle.std.specs.Prelude.{◌≡◌, ℕ, ◌-◌, ◌<◌, ◌≤◌, true, false, List, length, take, drop, replicate, Ok, Err, if◌then◌else◌, MatchOption};
 ghost use Rattle.std.specs.List.{All};
 ghost use Rattle.fault.specs.declared.Fault.TheVariants.{BadIv, NotOpened};
-ghost use Rattle.cipher.specs.Cipher.{opening, yielded};
-ghost use Rattle.cipher.specs.Sealing.{xor_from, same, sealed, body_sized, opened, Fixed, has_fixed, first_unfixed};
+ghost use Rattle.cipher.specs.Cipher.{Lawful, opening, yielded};
+ghost use Rattle.cipher.specs.Sealing.{xor_from, same, body_sized, opened, Fixed, has_fixed, first_unfixed, mode};
 
 use crate::block::BlockCipher;
+use crate::packet::PacketCipher;
 use crate::session::Session;
 use fault::Fault;
 
-// A key stream and a tag, over a block cipher. That an IV is well formed stays a premise: in a type of its own it would ask of the
-// callers of a packet cipher that they make one.
-pub(crate) trait Mode<B: BlockCipher> {
+// The fixed bytes of an IV, a key stream and a tag, over a block cipher. That an IV is well formed stays a premise: in a type of its own
+// it would ask of the callers of a packet cipher that they make one.
+pub(crate) trait Mode {
+    type Block: BlockCipher;
+
     // The bytes that an IV must have.
     ghost fixed: { Fixed };
 
@@ -20,20 +23,28 @@ pub(crate) trait Mode<B: BlockCipher> {
 
     ghost tag: { (List ℕ → List ℕ) → List ℕ → List ℕ → List ℕ };
 
+    // The fixed bytes, each with its place.
+    fn fixed() -> &'static [(u8, u8)]
+        ensures value { result.now ≡ fixed }
+        ensures within { All (λ p. p.0 < 16) result.now };
+
     // Puts contents under the key stream, and says their tag.
-    fn encrypt(session: &Session<B>, contents: &mut [u8]) -> [u8; 16]
+    fn encrypt(session: &Session<Self::Block>, contents: &mut [u8]) -> [u8; 16]
         requires formed { has_fixed fixed session.now.iv ≡ true }
         requires short { length contents.old ≤ 266 }
-        ensures contents { contents.new ≡ xor_from (stream (B.block session.now.key) session.now.iv) 0 contents.old }
-        ensures tag { result ≡ tag (B.block session.now.key) session.now.iv contents.old };
+        ensures contents { contents.new ≡ xor_from (stream (Self.Block.block session.now.key) session.now.iv) 0 contents.old }
+        ensures tag { result ≡ tag (Self.Block.block session.now.key) session.now.iv contents.old };
 
     // Writes the contents that stand under the key stream, and says their tag.
-    fn decrypt(session: &Session<B>, covered: &[u8], contents: &mut [u8]) -> [u8; 16]
+    fn decrypt(session: &Session<Self::Block>, covered: &[u8], contents: &mut [u8]) -> [u8; 16]
         requires formed { has_fixed fixed session.now.iv ≡ true }
         requires short { length covered.now ≤ 266 }
         requires same_size { length contents.old ≡ length covered.now }
-        ensures contents { contents.new ≡ xor_from (stream (B.block session.now.key) session.now.iv) 0 covered.now }
-        ensures tag { result ≡ tag (B.block session.now.key) session.now.iv contents.new };
+        ensures contents { contents.new ≡ xor_from (stream (Self.Block.block session.now.key) session.now.iv) 0 covered.now }
+        ensures tag { result ≡ tag (Self.Block.block session.now.key) session.now.iv contents.new };
+
+    // Sealing and opening undo each other.
+    ghost lawful: { Lawful (mode fixed (λ k iv. stream (Self.Block.block k) iv) (λ k iv. tag (Self.Block.block k) iv)) };
 }
 
 // Refuses an IV at the first place where it has not the fixed byte.
@@ -47,18 +58,6 @@ pub(crate) fn check_fixed(fixed: &[(u8, u8)], iv: &[u8; 16]) -> Result<(), Fault
         }
     }
     Ok(())
-}
-
-// Seals in place: `out` holds the contents, and behind them 16 bytes for the tag.
-pub(crate) fn seal<B: BlockCipher, M: Mode<B>>(key: &[u8; 16], iv: &[u8; 16], out: &mut [u8])
-    requires formed { has_fixed M.fixed iv.now ≡ true }
-    requires low { 16 ≤ length out.old }
-    requires high { length out.old ≤ 282 }
-    ensures { out.new ≡ sealed (M.stream (B.block key.now) iv.now) (M.tag (B.block key.now) iv.now) (take (length out.old - 16) out.old) }
-{
-    let n = out.len() - 16;
-    let tag = M::encrypt(&Session::new(key, iv), &mut out[..n]);
-    out[n..].copy_from_slice(&tag);
 }
 
 // A body of 16 to 282 bytes as the contents under the key stream, and the tag.
@@ -93,15 +92,15 @@ fn refused(work: &mut [u8; 266]) -> Result<usize, Fault>
     Err(Fault::NotOpened)
 }
 
-fn open_into<B: BlockCipher, M: Mode<B>>(
+fn open_into<M: Mode>(
     key: &[u8; 16],
     iv: &[u8; 16],
     body: &[u8],
     work: &mut [u8; 266],
 ) -> Result<usize, Fault>
     requires formed { has_fixed M.fixed iv.now ≡ true }
-    ensures answer { result ≡ opening (opened (M.stream (B.block key.now) iv.now) (M.tag (B.block key.now) iv.now) body.now) }
-    ensures work { work.new ≡ yielded (opened (M.stream (B.block key.now) iv.now) (M.tag (B.block key.now) iv.now) body.now) }
+    ensures answer { result ≡ opening (opened (M.stream (M.Block.block key.now) iv.now) (M.tag (M.Block.block key.now) iv.now) body.now) }
+    ensures work { work.new ≡ yielded (opened (M.stream (M.Block.block key.now) iv.now) (M.tag (M.Block.block key.now) iv.now) body.now) }
 {
     let Some((covered, given)) = parted(body) else {
         return refused(work);
@@ -115,18 +114,24 @@ fn open_into<B: BlockCipher, M: Mode<B>>(
     Ok(n)
 }
 
-// Opens a body into the first 266 bytes of `work`, and says how many bytes its contents have.
-pub(crate) fn open<B: BlockCipher, M: Mode<B>>(
-    key: &[u8; 16],
-    iv: &[u8; 16],
-    body: &[u8],
-    work: &mut [u8],
-) -> Result<usize, Fault>
-    requires formed { has_fixed M.fixed iv.now ≡ true }
-    requires room { 266 ≤ length work.old }
-    ensures answer { result ≡ opening (opened (M.stream (B.block key.now) iv.now) (M.tag (B.block key.now) iv.now) body.now) }
-    ensures work { work.new ≡ yielded (opened (M.stream (B.block key.now) iv.now) (M.tag (B.block key.now) iv.now) body.now) ++ drop 266 work.old }
-{
-    let work = work.first_chunk_mut().ok_or(Fault::NotOpened)?;
-    open_into::<B, M>(key, iv, body, work)
+// Each mode is a packet cipher: it seals and opens by its key stream and its tag.
+impl<M: Mode> PacketCipher for M {
+    ghost cipher = { mode M.fixed (λ k iv. M.stream (M.Block.block k) iv) (λ k iv. M.tag (M.Block.block k) iv) };
+
+    ghost lawful = { M.lawful };
+
+    fn check_iv(iv: &[u8; 16]) -> Result<(), Fault> {
+        check_fixed(M::fixed(), iv)
+    }
+
+    fn seal(key: &[u8; 16], iv: &[u8; 16], out: &mut [u8]) {
+        let n = out.len() - 16;
+        let tag = M::encrypt(&Session::new(key, iv), &mut out[..n]);
+        out[n..].copy_from_slice(&tag);
+    }
+
+    fn open(key: &[u8; 16], iv: &[u8; 16], body: &[u8], work: &mut [u8]) -> Result<usize, Fault> {
+        let work = work.first_chunk_mut().ok_or(Fault::NotOpened)?;
+        open_into::<M>(key, iv, body, work)
+    }
 }

@@ -43,7 +43,9 @@ pub(crate) fn block_of(bytes: &[u8]) -> [u8; 16]
     b
 }
 
-// Adds the bytes of `pad` to those of `part`, by exclusive or.
+// Adds the bytes of `pad` to those of `part`, by exclusive or. By an index into `pad`: tried with `zip`, where a loop's invariant can't name
+// what was written, and with `for_each` behind it, of which the checker says that it 'says nothing yet of how it leaves a value that the
+// iterator borrowed as `&mut`'.
 pub(crate) fn add_into(part: &mut [u8], pad: &[u8; 16])
     requires { length part.old ≤ 16 }
     ensures { part.new ≡ xors part.old pad.now }
