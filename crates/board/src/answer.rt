@@ -7,7 +7,8 @@ use std::marker::Model;
 
 mod parts;
 
-// What a byte call answers: the refusal, if it refuses, and how many bytes of the reply buffer it sends.
+// What a byte call answers: the refusal, if it refuses, and how many bytes of the reply buffer it sends. A count: the bytes lie in the
+// caller's own buffer.
 #[derive(Clone, Copy)]
 pub struct ByteAnswer {
     pub refusal: Option<Fault>,

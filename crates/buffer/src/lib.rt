@@ -2,7 +2,7 @@
 // small. Contracts see the bytes in use.
 #![tactic(auto)]
 
-ghost use Rattle.std.specs.Prelude.{◌≡◌, [], ◌∷◌, ◌++◌, take};
+ghost use Rattle.std.specs.Prelude.{◌≡◌, ◌≤◌, [], ◌∷◌, ◌++◌, length, take};
 ghost use Rattle.buffer.specs.Padded.{room};
 
 use std::marker::Model;
@@ -59,7 +59,8 @@ impl<const N: usize> Buffer<N> {
     }
 
     pub fn as_slice(&self) -> &[u8]
-        ensures { result.now ≡ self.now }
+        ensures bytes { result.now ≡ self.now }
+        ensures bound { length result.now ≤ N }
     {
         &self.bytes[..self.count as usize]
     }

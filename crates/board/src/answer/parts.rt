@@ -1,5 +1,5 @@
 // The parts of an answer, and answers made from what the calls return.
-ghost use Rattle.std.specs.Prelude.{◌≡◌};
+ghost use Rattle.std.specs.Prelude.{◌≡◌, ◌≤◌, length};
 ghost use Rattle.board.specs.Answers.{boot_answer, byte_answer, plain_answer, refused_byte};
 
 use super::{Answer, ByteAnswer};
@@ -34,7 +34,8 @@ impl Answer {
     }
 
     pub fn sent(&self) -> &[u8]
-        ensures { result.now ≡ self.now.sent }
+        ensures bytes { result.now ≡ self.now.sent }
+        ensures bound { length result.now ≤ 11 }
     {
         self.sent.as_slice()
     }

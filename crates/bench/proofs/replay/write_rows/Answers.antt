@@ -18,7 +18,7 @@ loop-answer-preserved c =
     let left = drop (i + 1) given in
     let first : drop i given ≡ x ∷ left = at_drop_more (λ zs. zs) given i x h ∙ ap (λ y. y ∷ left) (sym c.answer-item.is) in
     let shown = ap₂ (λ f b. record { refusal = f; sent = c.sent.result.now; said = b }) c.refusal.ensures c.boot.ensures
-    ∙ ap (λ bs. record { refusal = x.refusal; sent = bs; said = x.said }) c.sent.ensures in
+    ∙ ap (λ bs. record { refusal = x.refusal; sent = bs; said = x.said }) c.sent.ensures.bytes in
     let e = c.in_ok-write_row.ensures.items ∙ ap (λ a. old ++ row n a) shown in (
       ap₂ (λ rs m. rs ++ rows_from m left) e c.number_after-next.ensures
           ∙ append_assoc old (row n x) (rows_from (next_number n) left)
