@@ -7,7 +7,7 @@ mod judge;
 mod open;
 mod store;
 
-// The fields of opened contents; the data lie in the work buffer, from a place on.
+// The fields of opened contents; the data lie in the work buffer, from a place on: no slice, since a state borrows nothing.
 #[derive(Drop)]
 pub(crate) struct Opened {
     ver: u8,

@@ -83,8 +83,5 @@ fn acknowledge(reply: &mut [u8; REPLY], core: &[u8]) -> usize
     ensures count { result ≡ length core.now + 6 }
 {
     reply[0] = 0;
-    match write_frame(&mut reply[1..], core) {
-        Some(n) => 1 + n,
-        None => 0,
-    }
+    write_frame(&mut reply[1..], core).map_or(0, |n| 1 + n)
 }

@@ -10,7 +10,7 @@ use crate::work::WORK;
 use cipher::PacketCipher;
 use fault::Fault;
 
-// A packet of a length that its kind has.
+// A packet of a length that its kind has: a plain number, as all states of a packet, so that clauses say of which core command.
 #[derive(Drop)]
 pub(crate) struct Sealed<const LEAST: usize, const MOST: usize> {
     length: usize,
@@ -37,7 +37,7 @@ impl<const LEAST: usize, const MOST: usize> Sealed<LEAST, MOST> {
         ensures long { IfOk result (λ s. s.length ≡ length core.entry.buffer.now) }
     {
         let length = core.bytes().len();
-        if length < LEAST || length > MOST {
+        if !(LEAST..=MOST).contains(&length) {
             return Err(Fault::PacketLength(length as u16));
         }
         Ok(Sealed { length })

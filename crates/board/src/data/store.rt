@@ -22,7 +22,7 @@ impl Opened {
         Ok(())
     }
 
-    // The last step of a last packet.
+    // The last step of a last packet. Not one function with `open_update`: condition and mark would be its parameters, and no line be saved.
     fn close_update<M: Memory>(&self, memory: &mut M) -> Result<(), Fault>
         ensures { (bs : List ℕ) → Performs (closing_steps (packet_with self.now bs)) (M.meaning memory.old) (M.meaning memory.new) result }
     {

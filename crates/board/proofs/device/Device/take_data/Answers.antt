@@ -1,5 +1,7 @@
-use Rattle.std.proofs.Common.{refl, ◌∙◌}
+use Rattle.std.proofs.Common.{refl, ap, ◌∙◌}
 use Rattle.memory.proofs.Exits.{passed_on}
+use Rattle.rules.specs.Board.{fields}
+use Rattle.board.specs.Opening.{opened_by}
 use Rattle.board.proofs.Judging.{data_judged, data_shut, data_unsized}
 use Rattle.board.proofs.Outcome.{data_dark, data_refuses, data_well}
 use Rattle.board.proofs.Stepping.{session_as}
@@ -19,8 +21,9 @@ returns-in_err-opened g c =
     let w = c.args.self.now in
     let core = c.args.core.buffer.now in
     let h = c.record-held in
+    let o = c.in_err-opened.ensures ∙ ap (λ k. opened_by C fields k core) c.key_of-key.ensures in
     data_refuses C w _ _ w.memory _ c.self.view_is h.ensures.same core _ _ (passed_on _ _ c.from_residual-in_err-opened.ensures.1)
-    (data_shut C w _ _ c.self.view_is h.result h.ensures.value core c.in_ok-sealed.ensures.value _ c.in_err-opened.ensures)
+    (data_shut C w _ _ c.self.view_is h.result h.ensures.value core c.in_ok-sealed.ensures.value _ o)
 
 pub returns-in_err-judged : goal.returns-in_err-judged
 returns-in_err-judged g c =
@@ -29,8 +32,9 @@ returns-in_err-judged g c =
     let core = c.args.core.buffer.now in
     let work = c.open.new.work in
     let h = c.record-held in
+    let o = c.in_ok-opened.ensures ∙ ap (λ k. opened_by C fields k core) c.key_of-key.ensures in
     data_refuses C w _ _ w.memory _ c.self.view_is h.ensures.same core _ _ (passed_on _ _ c.from_residual-in_err-judged.ensures.1)
-    (data_judged C w _ _ c.self.view_is h.result h.ensures.value core c.in_ok-sealed.ensures.value _ c.in_ok-opened.ensures _ (c.in_err-judged.ensures work c.open.array_long))
+    (data_judged C w _ _ c.self.view_is h.result h.ensures.value core c.in_ok-sealed.ensures.value _ o _ (c.in_err-judged.ensures work c.open.array_long))
 
 pub returns-in_err-stored : goal.returns-in_err-stored
 returns-in_err-stored g c =
@@ -39,8 +43,9 @@ returns-in_err-stored g c =
     let core = c.args.core.buffer.now in
     let work = c.open.new.work in
     let h = c.record-held in
+    let o = c.in_ok-opened.ensures ∙ ap (λ k. opened_by C fields k core) c.key_of-key.ensures in
     data_dark C w _ _ _ _ c.self.view_is h.ensures.same core _
-    (data_judged C w _ _ c.self.view_is h.result h.ensures.value core c.in_ok-sealed.ensures.value _ c.in_ok-opened.ensures _ (c.in_ok-judged.ensures work c.open.array_long))
+    (data_judged C w _ _ c.self.view_is h.result h.ensures.value core c.in_ok-sealed.ensures.value _ o _ (c.in_ok-judged.ensures work c.open.array_long))
     _ _ (passed_on _ _ c.from_residual-in_err-stored.ensures.1) c.in_err-stored.ensures.steps
 
 pub returns : goal.returns
@@ -50,7 +55,8 @@ returns g c =
     let core = c.args.core.buffer.now in
     let work = c.open.new.work in
     let h = c.record-held in
+    let o = c.in_ok-opened.ensures ∙ ap (λ k. opened_by C fields k core) c.key_of-key.ensures in
     let s = c.in_ok-stored.ensures in
     data_well C w _ _ _ _ c.self.view_is h.ensures.same core _
-    (data_judged C w _ _ c.self.view_is h.result h.ensures.value core c.in_ok-sealed.ensures.value _ c.in_ok-opened.ensures _ (c.in_ok-judged.ensures work c.open.array_long))
+    (data_judged C w _ _ c.self.view_is h.result h.ensures.value core c.in_ok-sealed.ensures.value _ o _ (c.in_ok-judged.ensures work c.open.array_long))
     _ (c.session-self-inside.ensures ∙ session_as _ _ s.stored.0 s.stored.1) s.steps

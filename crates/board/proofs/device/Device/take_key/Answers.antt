@@ -1,5 +1,7 @@
-use Rattle.std.proofs.Common.{refl}
+use Rattle.std.proofs.Common.{refl, ap, ◌∙◌}
 use Rattle.memory.proofs.Exits.{passed_on}
+use Rattle.rules.specs.Board.{key_fields}
+use Rattle.board.specs.Opening.{opened_by}
 use Rattle.board.proofs.Judging.{key_failed, key_passed, key_shut, key_unsized}
 use Rattle.board.proofs.Outcome.{key_dark, key_refuses, key_well}
 use Rattle.board.proofs.Stepping.{done_on}
@@ -19,8 +21,9 @@ returns-in_err-opened g c =
     let w = c.args.self.now in
     let core = c.args.core.buffer.now in
     let h = c.record-held in
+    let o = c.in_err-opened.ensures ∙ ap (λ k. opened_by C key_fields k core) c.key_of-key.ensures in
     key_refuses C w _ _ w.memory _ c.self.view_is h.ensures.same core _ _ (passed_on _ _ c.from_residual-in_err-opened.ensures.1)
-    (key_shut C w _ _ c.self.view_is h.result h.ensures.value core c.in_ok-sealed.ensures.value _ c.in_err-opened.ensures)
+    (key_shut C w _ _ c.self.view_is h.result h.ensures.value core c.in_ok-sealed.ensures.value _ o)
 
 pub returns-in_err-judged : goal.returns-in_err-judged
 returns-in_err-judged g c =
@@ -28,8 +31,9 @@ returns-in_err-judged g c =
     let w = c.args.self.now in
     let core = c.args.core.buffer.now in
     let h = c.record-held in
+    let o = c.in_ok-opened.ensures ∙ ap (λ k. opened_by C key_fields k core) c.key_of-key.ensures in
     key_refuses C w _ _ w.memory _ c.self.view_is h.ensures.same core _ _ (passed_on _ _ c.from_residual-in_err-judged.ensures.1)
-    (key_failed C w _ _ c.self.view_is h.result h.ensures.value core c.in_ok-sealed.ensures.value _ c.in_ok-opened.ensures _ (c.in_err-judged.ensures c.open.new.work))
+    (key_failed C w _ _ c.self.view_is h.result h.ensures.value core c.in_ok-sealed.ensures.value _ o _ (c.in_err-judged.ensures c.open.new.work))
 
 pub returns-in_err-store : goal.returns-in_err-store
 returns-in_err-store g c =
@@ -37,7 +41,8 @@ returns-in_err-store g c =
     let w = c.args.self.now in
     let core = c.args.core.buffer.now in
     let h = c.record-held in
-    let p = key_passed C w _ _ c.self.view_is h.result h.ensures.value core c.in_ok-sealed.ensures.value _ c.in_ok-opened.ensures _ (c.in_ok-judged.ensures c.open.new.work) in
+    let o = c.in_ok-opened.ensures ∙ ap (λ k. opened_by C key_fields k core) c.key_of-key.ensures in
+    let p = key_passed C w _ _ c.self.view_is h.result h.ensures.value core c.in_ok-sealed.ensures.value _ o _ (c.in_ok-judged.ensures c.open.new.work) in
     key_dark C w _ _ _ _ c.self.view_is h.ensures.same core p.0 p.1.0 _ _ (passed_on _ _ c.from_residual-in_err-store.ensures.1)
     (done_on _ _ _ _ _ _ p.1.1 refl c.in_err-store.ensures)
 
@@ -47,5 +52,6 @@ returns g c =
     let w = c.args.self.now in
     let core = c.args.core.buffer.now in
     let h = c.record-held in
-    let p = key_passed C w _ _ c.self.view_is h.result h.ensures.value core c.in_ok-sealed.ensures.value _ c.in_ok-opened.ensures _ (c.in_ok-judged.ensures c.open.new.work) in
+    let o = c.in_ok-opened.ensures ∙ ap (λ k. opened_by C key_fields k core) c.key_of-key.ensures in
+    let p = key_passed C w _ _ c.self.view_is h.result h.ensures.value core c.in_ok-sealed.ensures.value _ o _ (c.in_ok-judged.ensures c.open.new.work) in
     key_well C w _ _ _ _ c.self.view_is h.ensures.same core p.0 p.1.0 (done_on _ _ _ _ _ _ p.1.1 refl c.in_ok-store.ensures)
