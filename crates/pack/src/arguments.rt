@@ -56,7 +56,7 @@ pub struct KeyArguments {
     pub mode: Mode,
     pub kek: [u8; 16],
     pub iv: [u8; 16],
-    // Any number, as in a packet.
+    // A number: a packet of any type can be packed, and an enum of those known would ask more of callers.
     pub kind: u8,
     pub version: u8,
     pub key: [u8; 16],

@@ -23,6 +23,7 @@ fn data(rt: &HostRuntime, words: &[String]) -> Result<(), Failure> {
     };
     let a = data_arguments(cipher, key, iv, ver, pn, np, address).map_err(malformed)?;
     let bytes = hex_bytes(rt.alloc(), data.as_bytes())?.ok_or(malformed(Argument::Data))?;
+    // A word chooses the type of the packet cipher: as a closure or a `dyn` it would be no plainer.
     match a.mode {
         Mode::Ccm => report_data::<Ccm<Aes128>>(rt, &a, &bytes),
         Mode::Gcm => report_data::<Gcm<Aes128>>(rt, &a, &bytes),
@@ -36,6 +37,7 @@ fn key(rt: &HostRuntime, words: &[String]) -> Result<(), Failure> {
         return Err(malformed(Argument::Count));
     };
     let a = key_arguments(cipher, kek, iv, kt, kv, key).map_err(malformed)?;
+    // The same for key packets, which are reported by another function.
     match a.mode {
         Mode::Ccm => report_key::<Ccm<Aes128>>(rt, &a),
         Mode::Gcm => report_key::<Gcm<Aes128>>(rt, &a),

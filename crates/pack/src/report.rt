@@ -32,10 +32,10 @@ fn opens_to<C: PacketCipher>(key: &[u8; 16], iv: &[u8; 16], body: &[u8], content
         return false;
     }
     let mut work = [0; 266];
-    match C::open(key, iv, body, &mut work) {
-        Ok(count) => count == n && &work[0..n] == contents,
-        Err(_) => false,
-    }
+    let Ok(count) = C::open(key, iv, body, &mut work) else {
+        return false;
+    };
+    count == n && &work[..n] == contents
 }
 
 // Prints the frame, and whether its packet opens again to the contents.
