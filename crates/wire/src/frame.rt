@@ -11,7 +11,7 @@ pub const CORE_MAX: usize = 299;
 fn fits(n: usize, m: usize) -> bool
     ensures { result ≡ room n m }
 {
-    1 <= n && n <= CORE_MAX && n + 5 <= m
+    (1..=CORE_MAX).contains(&n) && n + 5 <= m
 }
 
 // Puts the frame around the core command of `n` bytes that stands in `out` from place 3 on, and says how long the
