@@ -1,7 +1,7 @@
 // A board whose calls are made in pieces: calls wait and are made together, and their rows wait to be printed, so that neither a long
 // listing nor its rows have to stand in memory.
 ghost use Rattle.std.specs.Prelude.{◌≡◌, ◌||◌, [], length, nat_le, IfOk};
-ghost use Rattle.bench.specs.Listing.{Reached, reached_by, with_line};
+ghost use Rattle.bench.specs.Listing.{reached_by, with_line};
 
 use crate::replay::{number_after, replay};
 use board::Board;

@@ -83,6 +83,7 @@ pub enum Fault {
 }
 
 impl Fault {
+    // The number of the refusal: a name says what the number is, which a From would not.
     pub fn number(&self) -> u8
         ensures { result ≡ (refusal self.now).number }
     {

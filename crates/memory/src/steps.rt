@@ -27,8 +27,8 @@ pub fn store_data<M: Memory>(memory: &mut M, address: u32, bytes: &[u8]) -> Resu
     store_up(memory, address, bytes)
 }
 
-// Blanks what is erased of an area. A loop of its own: one over any iterator, for stored bytes too, would need a contract that says what the
-// iterator gives.
+// Blanks what is erased of an area. A loop of its own beside that of `store_up`: one over any iterator would be no plainer, since its
+// contract would have to say what the iterator gives.
 fn erase_area<M: Memory>(memory: &mut M, area: &Area) -> Result<(), Fault>
     requires { all_in_map (erased area.now) ≡ true }
     ensures { Performs (erased area.now) (M.meaning memory.old) (M.meaning memory.new) result }

@@ -1,7 +1,7 @@
 // Sealing a packet in the middle of the caller's output, and the frame around it.
 //
 // place 0: the frame's header; 3: the command byte; 4: the IV; 20: the contents, then the tag; behind them: the checksum.
-ghost use Rattle.std.specs.Prelude.{◌≡◌, ◌+◌, ◌≤◌, true, ◌∷◌, ◌++◌, length, take, drop, IfOk, Ok};
+ghost use Rattle.std.specs.Prelude.{◌≡◌, ◌+◌, ◌≤◌, true, length, take, drop, IfOk, Ok};
 ghost use Rattle.wire.specs.Frame.{frame, over};
 ghost use Rattle.packer.specs.Packets.{data_contents, key_contents};
 ghost use Rattle.packer.specs.Packing.{packet as core_command, packed_data, packed_key, frame_length, laid, OpensTo};
@@ -16,7 +16,8 @@ const DATA_COMMAND: u8 = 0x30;
 
 const KEY_COMMAND: u8 = 0x31;
 
-// Seals the `n` bytes of contents that stand in `out` from place 20 on, and writes the rest of the frame around them.
+// Seals the `n` bytes of contents that stand in `out` from place 20 on, and writes the rest of the frame around them. The count stands
+// beside the buffer, since the contents lie in the midst of it, where they are sealed in place.
 fn sealed_frame<C: PacketCipher>(
     command: u8,
     key: &[u8; 16],

@@ -22,7 +22,7 @@ pub enum Boot {
 }
 
 impl Boot {
-    // The number of the answer.
+    // The number of the answer: a name says what the number is, which a From would not.
     pub fn number(self) -> u8
         ensures { result ≡ boot_number self }
     {

@@ -1,5 +1,5 @@
 // A bar of a chart: as many signs as its part of the whole, so that no part that is there goes unseen.
-ghost use Rattle.std.specs.Prelude.{◌≡◌, ◌≤◌, Some, replicate};
+ghost use Rattle.std.specs.Prelude.{◌≡◌, Some, replicate};
 ghost use Rattle.sweep.specs.Bars.{bar_length};
 
 use std::fmt;

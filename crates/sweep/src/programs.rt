@@ -1,7 +1,5 @@
 // Two programs at the same places of the map, an old one and a new one, among bytes that fill the rest of it.
 ghost use Rattle.std.specs.Prelude.{◌≡◌, ◌%◌, length};
-ghost use Rattle.fault.specs.Checks.{then};
-ghost use Rattle.memory.specs.Steps.{data_answer, data_left};
 ghost use Rattle.sweep.specs.Programs.{program_answer, program_left, with_program};
 
 use fault::Fault;

@@ -1,5 +1,5 @@
 // Hexadecimal text read: single digits, bytes of two digits each, blocks of sixteen bytes, and numbers behind "0x".
-ghost use Rattle.std.specs.Prelude.{◌≡◌, ◌+◌, ◌*◌, ◌<◌, length, IfOk, vec_items, slice_index};
+ghost use Rattle.std.specs.Prelude.{◌≡◌, ◌+◌, ◌*◌, ◌<◌, length, IfOk, vec_items};
 ghost use Rattle.std.specs.Option.{option_map};
 ghost use Rattle.text.specs.Hex.{block_read, hex_number_read, hex_pair, hex_read, hex_value};
 
@@ -28,7 +28,7 @@ fn read_bytes(text: &[u8], bytes: &mut [u8]) -> Option<()>
     ensures { option_map (λ _. bytes.new) result ≡ hex_read text.now }
 {
     let (pairs, _) = text.as_chunks::<2>();
-    // By index: tried with `bytes.iter_mut()`, zipped, where a loop's invariant can't name what was written.
+    // By an index into one side: tried with `bytes.iter_mut()`, zipped, where a loop's invariant can't name what was written.
     for (i, [high, low]) in pairs.iter().enumerate() {
         bytes[i] = hex_byte(*high, *low)?;
     }
