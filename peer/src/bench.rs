@@ -1,7 +1,6 @@
-//! The program `bench`: reads a listing of calls line by line, makes them on a fresh board, prints a line
-//! for each.
+//! The program `bench`: reads a listing of calls, makes them on a fresh board, prints a line for each.
 
-use crate::board::{Answer, Board, Event};
+use crate::board::{answers, Answer, Board, Event};
 use std::io::{self, BufRead, Write};
 
 /// The call that a line (without its end) stands for; none if it is malformed.
@@ -28,33 +27,32 @@ fn call_of(line: &[u8]) -> Option<Event> {
     }
 }
 
-/// What the board answers to a line; a malformed one never reaches it.
+/// The answer to a malformed line, which never reaches the board.
+const MALFORMED: Answer = Answer { refusal: 8, shown: Vec::new() };
+
+/// What the board answers to a line.
 pub fn answer_to(board: &mut Board, line: &[u8]) -> Answer {
-    match call_of(line) {
-        Some(event) => board.call(event),
-        None => Answer { refusal: 8, shown: Vec::new() },
-    }
+    call_of(line).map_or(MALFORMED, |event| board.call(event))
 }
 
 pub fn run(mut input: impl BufRead, mut output: impl Write) -> io::Result<()> {
-    let mut board = Board::fresh();
-    let mut line = Vec::new();
-    let mut count = 0u64;
-    loop {
-        line.clear();
-        input.read_until(b'\n', &mut line)?;
-        if line.pop() != Some(b'\n') {
-            // The end, and perhaps some bytes behind the last line.
-            return output.flush();
-        }
-        count += 1;
-        let answer = answer_to(&mut board, &line);
-        write!(output, "{:6}{:4}", count % 1_000_000, answer.refusal)?;
+    let mut text = Vec::new();
+    input.read_to_end(&mut text)?;
+    let mut lines: Vec<&[u8]> = text.split(|&byte| byte == b'\n').collect();
+    // What is behind the last line end is no line.
+    lines.pop();
+    let calls: Vec<Option<Event>> = lines.iter().map(|line| call_of(line)).collect();
+    let events: Vec<Event> = calls.iter().flatten().copied().collect();
+    let mut answers = answers(&events).into_iter();
+    for (i, call) in calls.iter().enumerate() {
+        let answer = call.and_then(|_| answers.next()).unwrap_or(MALFORMED);
+        write!(output, "{:6}{:4}", (i + 1) % 1_000_000, answer.refusal)?;
         for byte in answer.shown {
             write!(output, "{byte:4}")?;
         }
         output.write_all(b"\n")?;
     }
+    output.flush()
 }
 
 #[cfg(test)]

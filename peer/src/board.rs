@@ -68,6 +68,12 @@ pub struct Board {
     pub session: Option<Session>,
 }
 
+/// The answers of a fresh board to a list of calls, one for each.
+pub fn answers(events: &[Event]) -> Vec<Answer> {
+    let mut board = Board::fresh();
+    events.iter().map(|&event| board.call(event)).collect()
+}
+
 fn outside_map(address: usize) -> bool {
     !AREAS.iter().any(|&(first, end)| first <= address && address < end)
 }
