@@ -2,6 +2,7 @@
 ghost use Rattle.std.specs.Prelude.{◌≡◌, length, ◌==◌, false, Ok, Err};
 ghost use Rattle.fault.specs.declared.Fault.TheVariants.{ImageSize};
 ghost use Rattle.memory.specs.Areas.{map_size};
+ghost use Rattle.rules.specs.Examples.{CheckedExamples};
 ghost use Rattle.rules.specs.Promises.{Given, start};
 
 use crate::board::Board;
@@ -17,6 +18,7 @@ impl<'a, C: PacketCipher> Board<LentImage<'a>, C> {
         kek: [u8; 16],
     ) -> Result<Board<LentImage<'a>, C>, Fault>
         ensures refused { (length image.old == map_size) ≡ false → result ≡ Err ImageSize }
+        ensures examples { CheckedExamples }
         ensures fresh { (g : Given) → g.image ≡ image.old → g.data_key_bytes ≡ key → g.kek_bytes ≡ kek → result ≡ Ok (start g) }
     {
         let memory = LentImage::over(image, Held::fresh(key, kek), Supply::NoEnd)?;

@@ -17,3 +17,4 @@ pub mod Refusing
 pub mod Promised
 pub mod Examples
 pub mod SameVersion
+pub mod Checked

@@ -1,10 +1,12 @@
--- A worked example: the version that may open.
+-- Worked examples: the version that may open, and all checked examples as one set.
 use Rattle.std.specs.Prelude.{◌≡◌, ℕ, Bool, true, false, List, [], ◌∷◌, ◌++◌, length, Some, None, Option}
 use Rattle.fault.specs.declared.Fault.{Fault}
 use Rattle.fault.specs.declared.Fault.TheVariants.{MayNotOpen}
 use Rattle.memory.specs.declared.supply.Supply.TheVariants.{NoEnd}
+use Rattle.memory.specs.Areas.{RangeExamples}
 use Rattle.memory.specs.Held.{first_key}
 use Rattle.memory.specs.Meaning.{Contents}
+use Rattle.wire.specs.Checksum.{Examples}
 use Rattle.cipher.specs.Cipher.{Cipher, Lawful}
 use Rattle.rules.specs.declared.Event.{Event}
 use Rattle.rules.specs.declared.Session.TheVariants.{Closed}
@@ -71,3 +73,9 @@ pub record SameVersion : Type 0 where
   pub by_the_mark : (C : Cipher) → Lawful C → (s : State) (e : Event) → SevenArrives C (call C s e) → ByTheMark C s e
   pub by_the_fields : (refused_seven false ≡ Some (MayNotOpen 1)) × (refused_seven true ≡ None)
   pub there_are : (C : Cipher) → Lawful C → (g : Given) (m : Bool) → SevenAt C (seven_held g m)
+
+-- The checked examples, as one set: checksums, stores at the ends of the areas, and a packet of the held version.
+pub record CheckedExamples : Type 0 where
+  pub checksums : Examples
+  pub stores : RangeExamples
+  pub held_version : SameVersion

@@ -4,7 +4,7 @@
 ghost use Rattle.std.specs.Prelude.{◌≡◌, Some};
 ghost use Rattle.rules.specs.Arrival.{FramesArrive};
 ghost use Rattle.rules.specs.Board.{boot_number, boot_text};
-ghost use Rattle.rules.specs.Examples.{SameVersion};
+ghost use Rattle.rules.specs.Examples.{CheckedExamples, SameVersion};
 ghost use Rattle.rules.specs.Instances.{RunsExist};
 ghost use Rattle.rules.specs.Laws.{DarkWhenSpent, EachCallHasItsRefusals, HistoriesJoin, KeyTypesNameKeys, PacketsAreOneList, PassingShows, RefusalsChangeNothing, TurnedAwayUnchanged};
 ghost use Rattle.rules.specs.Memory.{DataIsLaid};
@@ -141,4 +141,9 @@ pub fn data_is_laid_over()
 // Of the held version only an unfinished update may open again.
 pub fn same_version_opens_if_unfinished()
     ensures { SameVersion }
+{}
+
+// The checked examples, as one set: checksums, stores at the ends of the areas, and a packet of the held version.
+pub fn checked_examples()
+    ensures { CheckedExamples }
 {}
