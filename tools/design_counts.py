@@ -108,7 +108,7 @@ points = [
     ("5 facts in three contracts or more", repeated_facts()),
     ("5 parameters together in three functions or more", travelling()),
     ("6 arrays with a length or a place beside", matching(r"^\s*(pub(\(\w+\))? )?(bytes|buffer|core|keys): \[|\bn: usize[,)]|words\[\d+\]")),
-    ("7 flags and modes that choose a step", matching(r"fn .*\b\w+: bool|^\s+\w+: bool,$|match .*\.mode|\bfn\(")),
+    ("7 flags and modes that choose a step", matching(r"fn .*\b\w+: bool|^\s+(?:pub(?:\(\w+\))? )?\w+: bool,$|match .*\.mode|\bfn\(")),
     ("8 answers in proofs", answers()),
 ]
 for name, found in points:

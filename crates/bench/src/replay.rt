@@ -20,6 +20,7 @@ pub fn number_after(number: u64) -> u64
 fn write_rows(rows: &mut Vec<u8>, number: u64, answers: &[Answer]) -> Result<u64, AllocError>
     ensures { IfOk result (Printed number answers.now rows.old.items rows.new.items) }
 {
+    // Carried along, since numbers begin again at 1,000,000, and the one behind the last is the result.
     let mut next = number;
     for answer in answers {
         write_row(rows, next, answer.refusal(), answer.boot(), answer.sent())?;

@@ -72,6 +72,15 @@ just_51 n =
           | inr t ↦ and_right (leb 51 n) _ t
         ]
 
+-- the judging of any board is that of its session and held record
+by_fields : (s : State) (p : Packet) → judge_fields s p ≡ judge_by s.session s.contents.held p
+unfolding judge_fields
+by_fields s p = refl
+
+by_key_fields : (s : State) (p : KeyPacket) → judge_key_fields s p ≡ judge_key_by s.contents.held p
+unfolding judge_key_fields
+by_key_fields s p = refl
+
 -- a packet on a board that is not dark: held is the record that was read
 module _ (C : Cipher) (w : Working) (m : Meaning) (n : Session) (at : works m n ≡ w) (held : Held) (same : held ≡ m.contents.held) (core : List ℕ) where
   abbrev s : State

@@ -7,15 +7,17 @@ use std::marker::Model;
 
 mod parts;
 
-// What a byte call answers: the refusal, if it refuses, and how many bytes of the reply buffer it sends. A count: the bytes lie in the
-// caller's own buffer.
+// What a byte call answers: the refusal, if it refuses, and how many bytes of the reply buffer it sends. A count, at
+// most 11: the bytes lie in the caller's own buffer. No Result, since a refusal sends bytes too; and that there are at most 11 stays a clause of
+// the calls, where a type would ask it of whoever makes one.
 #[derive(Clone, Copy)]
 pub struct ByteAnswer {
     pub refusal: Option<Fault>,
     pub sent: usize,
 }
 
-// What any call answers, kept: the refusal, if it refuses, the bytes that are sent, and what a boot question says.
+// What any call answers, kept: the refusal, if it refuses, the bytes that are sent, and what a boot question says. No Result: a refusal sends
+// bytes too.
 #[derive(Clone, Copy)]
 pub struct Answer {
     refusal: Option<Fault>,

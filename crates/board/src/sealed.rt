@@ -43,7 +43,8 @@ impl<const LEAST: usize, const MOST: usize> Sealed<LEAST, MOST> {
         Ok(Sealed { length })
     }
 
-    // Opens the packet into the work buffer, and says how many bytes its contents have.
+    // Opens the packet into the work buffer, and says how many bytes its contents have. Core command and work buffer stay two parameters, here
+    // and above: the one is read, the other is written and lent on to the storing.
     pub(crate) fn open<C: PacketCipher>(
         self,
         core: CoreCommand,

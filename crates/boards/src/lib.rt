@@ -22,7 +22,7 @@ mod tests {
 
     const GCM_IV: [u8; 16] = [1, 2, 3, 4, 5, 6, 7, 8, 9, 10, 11, 12, 0, 0, 0, 1];
 
-    // The number of a refusal, or 0.
+    // The number of a refusal, or 0: tests keep the numbers that were worked out for them.
     fn number(refusal: Option<Fault>) -> u8 {
         refusal.map_or(0, |fault| fault.number())
     }
@@ -58,6 +58,7 @@ mod tests {
         last
     }
 
+    // The boot answer by its number, for the same reason.
     fn boots<M: Memory, C: PacketCipher>(
         rt: &impl Abort,
         board: &mut Board<M, C>,

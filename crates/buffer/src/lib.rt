@@ -1,5 +1,5 @@
 // A buffer of N bytes in one array, of which the first are in use, up to 65,535 of them: their count takes two bytes, as a board is
-// small. Contracts see the bytes in use.
+// small. Contracts see the bytes in use. Not the library's `arrayvec`, which is not Copy, as answers and frames are, and counts in a usize.
 #![tactic(auto)]
 
 ghost use Rattle.std.specs.Prelude.{◌≡◌, ◌≤◌, [], ◌∷◌, ◌++◌, length, take};

@@ -10,8 +10,8 @@ use crate::packet::PacketCipher;
 use crate::session::Session;
 use fault::Fault;
 
-// The fixed bytes of an IV, a key stream and a tag, over a block cipher. That an IV is well formed stays a premise: in a type of its own
-// it would ask of the callers of a packet cipher that they make one.
+// The fixed bytes of an IV, a key stream and a tag, over a block cipher. That an IV is well formed, and contents short, stay
+// premises: in types of their own they would ask of the callers of a packet cipher that they make some.
 pub(crate) trait Mode {
     type Block: BlockCipher;
 
@@ -64,12 +64,8 @@ pub(crate) fn check_fixed(fixed: &[(u8, u8)], iv: &[u8; 16]) -> Result<(), Fault
 fn parted(body: &[u8]) -> Option<(&[u8], &[u8; 16])>
     ensures { MatchOption result (body_sized body.now ≡ false) (λ p. (body_sized body.now ≡ true) × (p.0.now ≡ take (length body.now - 16) body.now) × (p.1.now ≡ drop (length body.now - 16) body.now)) }
 {
-    let (covered, tag) = body.split_last_chunk()?;
-    if covered.len() <= 266 {
-        Some((covered, tag))
-    } else {
-        None
-    }
+    body.split_last_chunk()
+        .filter(|(covered, _)| covered.len() <= 266)
 }
 
 // Whether two tags are equal, looking at all bytes of both.

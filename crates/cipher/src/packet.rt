@@ -4,7 +4,7 @@ ghost use Rattle.cipher.specs.Cipher.{Cipher, Lawful, iv_checked, opening, yield
 
 use fault::Fault;
 
-// Key and IV are two parameters, as they come from two places: a key is held, and an IV arrives with its packet.
+// Key and IV are two parameters: in the board a key is held, and an IV arrives with its packet.
 pub trait PacketCipher {
     ghost cipher: { Cipher };
 

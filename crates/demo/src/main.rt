@@ -31,10 +31,9 @@ fn send<M: Memory>(
     let mut events = Vec::new(rt.alloc());
     push_frame(&mut events, frame.as_slice())?;
     let answers = board.run(rt.alloc(), &events)?;
-    match answers.last() {
-        Some(answer) => told(rt, number, answer),
-        None => Ok(()),
-    }
+    answers
+        .last()
+        .map_or(Ok(()), |answer| told(rt, number, answer))
 }
 
 fn told(rt: &HostRuntime, number: u8, answer: &Answer) -> anyhow::Result<()> {

@@ -7,7 +7,7 @@ use memory::Supply;
 use rules::Event;
 use text::decimal::decimal;
 
-// The supply of a power-up: the highest number is 'no end'.
+// The supply of a power-up: the highest number is 'no end'. The listing's own rule, so no From of the memory's type.
 fn supply(number: u32) -> Supply
     ensures { result ≡ supply_of number }
 {

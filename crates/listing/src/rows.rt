@@ -1,4 +1,4 @@
-// Rows of the listing: what is printed for each answer. By hand, since no clause of `write!` says that it writes where there is room. And
+// Rows of the listing: what is printed for each answer. By hand, since no clause of `write!` says that it writes where there is room.
 // `Room` stands in each contract with a count of its own: a type around the buffer would have to say after each call how much of it is left.
 ghost use Rattle.std.specs.Prelude.{◌≡◌, ◌+◌, ◌-◌, ◌*◌, ◌%◌, ◌^◌, ◌<◌, ◌≤◌, min, true, ◌++◌, length, replicate, is_ok, if◌then◌else◌, vec_len, vec_capacity};
 ghost use Rattle.listing.specs.Appends.{Appended, Room};

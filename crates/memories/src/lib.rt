@@ -14,7 +14,7 @@ mod tests {
 
     const DATA: [u8; 5] = [0x40, 0x41, 0x42, 0x43, 0x44];
 
-    // A refusal by its number, or 0.
+    // A refusal by its number, or 0: tests keep the numbers that were worked out for them.
     fn answers(rt: &impl Abort, r: Result<(), Fault>, refusal: u8) {
         assert!(rt; r.err().map_or(0, |fault| fault.number()) == refusal);
     }

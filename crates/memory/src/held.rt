@@ -20,6 +20,7 @@ pub enum KeySlot {
 #[derive(Clone, Copy, PartialEq, Eq, Debug)]
 pub struct Held {
     pub version: u8,
+    // The mark, as in the rules: the version stands with it and without.
     pub unfinished: bool,
     pub keys: [KeyRecord; 2],
 }

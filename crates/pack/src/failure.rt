@@ -1,4 +1,4 @@
-// Why the program fails.
+// Why the program fails. Its impls are written out, since `System` takes errors of several types, for each of which a derive wants a variant.
 use crate::usage::{Argument, Form};
 use fault::Fault;
 use std::alloc::{AllocError, AllocFailed};

@@ -32,6 +32,7 @@ fn opens_to<C: PacketCipher>(key: &[u8; 16], iv: &[u8; 16], body: &[u8], content
         return false;
     }
     let mut work = [0; 266];
+    // Tried with `is_ok_and`: what its closure says is out of a proof's reach.
     let Ok(count) = C::open(key, iv, body, &mut work) else {
         return false;
     };

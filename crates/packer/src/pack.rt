@@ -11,13 +11,15 @@ use cipher::PacketCipher;
 use fault::Fault;
 use wire::frame::enclose;
 
-// Bytes of the frame, of which a packer knows these two: the board's commands are an enum that stands above it.
+// Bytes of the frame, of which a packer knows these two: the board's commands are an enum that stands above it, and one of its own here would
+// be no plainer.
 const DATA_COMMAND: u8 = 0x30;
 
 const KEY_COMMAND: u8 = 0x31;
 
 // Seals the `n` bytes of contents that stand in `out` from place 20 on, and writes the rest of the frame around them. The count stands
-// beside the buffer, since the contents lie in the midst of it, where they are sealed in place.
+// beside the buffer, since the contents lie in the midst of it, where they are sealed in place; key
+// and IV are two, as a packet cipher takes them.
 fn sealed_frame<C: PacketCipher>(
     command: u8,
     key: &[u8; 16],

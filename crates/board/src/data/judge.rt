@@ -11,6 +11,8 @@ use memory::{Held, check_range};
 use rules::Session;
 
 impl Opened {
+    // Session and held record stay two parameters below, as in the rules' judging: the one is the board's, the other is read from the memory.
+
     fn check_numbers(&self) -> Result<(), Fault>
         ensures { result ≡ numbers_checked (packet_with self.now []) }
     {

@@ -34,7 +34,8 @@ impl Opened {
 }
 
 impl Judged {
-    // Makes the storing steps of the packet, whose data lie in the work buffer.
+    // Makes the storing steps of the packet, whose data lie in the work buffer. Memory and work buffer stay two parameters: the one is the board's,
+    // the other its caller's.
     fn make_steps<M: Memory>(&self, memory: &mut M, work: &[u8; WORK]) -> Result<(), Fault>
         ensures { Performs (data_steps (judged_in self.now work.now)) (M.meaning memory.old) (M.meaning memory.new) result }
     {

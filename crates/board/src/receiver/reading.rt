@@ -12,7 +12,8 @@ use fault::Fault;
 use wire::checksum::checksum;
 
 impl Receiver {
-    // Reads one byte more, and says whether the core command is there. A flag: the core command lies in the receiver, and `byte` lends it.
+    // Reads one byte more, and says whether the core command is there. A flag: an Option would hold nothing, since
+    // the core command lies in the receiver, and only `byte` can lend it.
     fn read(&mut self, b: u8) -> Result<bool, Fault>
         ensures after { receiver_of self.new ≡ left_by (read (receiver_of self.old) b) }
         ensures value { answer_with result self.new.core ≡ answer_by (read (receiver_of self.old) b) }
