@@ -1,9 +1,12 @@
--- The product of GHASH from the last bit on, four bits at a time.
-use Rattle.std.proofs.Common.{◌≡◌, ℕ, zero, suc, ◌+◌, ◌-◌, ◌*◌, ◌/◌, ◌%◌, ◌^◌, ◌<◌, Bool, true, false, cond, eqb, sym, refl, ap, ◌∙◌, ap₂, add-zero, add-suc, add-one, arith}
+-- The product of GHASH from the last bit on, a byte at a time.
+use Rattle.std.proofs.Common.{◌≡◌, ℕ, zero, suc, ◌+◌, ◌-◌, ◌*◌, ◌/◌, ◌%◌, ◌^◌, ◌<◌, Bool, true, false, cond, eqb, get_or, sym, refl, ap, ◌∙◌, ap₂, add-zero, add-suc, add-one, arith}
 use lib.Bits.{bit_xor, xor_assoc, xor_comm, xor_zero_r, xor_zero_l, xor_shr, xor_mod, xor_shifted}
-use Rattle.std.proofs.lemmas.Nat.{shr-shr}
+use Rattle.std.proofs.lemmas.Nat.{shr-shr, pow-add}
+use Rattle.std.proofs.Math.Nat.{pow-suc}
+use Rattle.std.proofs.lemmas.List.FromFn.{get_or-map-range_with_len}
+use Rattle.std.specs.Int.{w128, byte_at, to_le_bytes}
 use Rattle.cipher.specs.Ghash.{halved, v_after, z_after, times}
-use Rattle.cipher.specs.Horner.{added, horner, fourth}
+use Rattle.cipher.specs.Horner.{added, horner, fourth, eighth}
 
 abbrev R : ℕ
 R = 0xe1000000000000000000000000000000
@@ -111,14 +114,49 @@ v_after_16 a =
     let p : a * 16 ≡ a * 2 * 2 * 2 * 2 = omega arith in
     rw (p, halved_even, halved_even, halved_even, halved_even)
 
-pub fourth_is : (v : ℕ) → v_after v 4 ≡ fourth v
+fourth_is : (v : ℕ) → v_after v 4 ≡ fourth v
 fourth_is v =
     let s : v ≡ bit_xor (v / 16 * 2 ^ 4) (v % 16) = (let e : v ≡ v / 16 * 16 + v % 16 = omega arith in e) ∙ sym (xor_shifted (v / 16) 4 (v % 16) (omega arith)) in
     ap (λ n. v_after n 4) s ∙ v_after_xor (v / 16 * 16) (v % 16) 4 ∙ ap (λ n. bit_xor n (v_after (v % 16) 4)) (v_after_16 (v / 16))
 
--- one step of the loop over four bits
-pub horner_four : (x y n m : ℕ) → n + 4 ≡ m → horner x y m ≡ bit_xor (fourth (horner x y n)) (horner (x / 2 ^ n % 16) y 4)
-horner_four x y n m e = ap (horner x y) (sym e) ∙ horner_more x y n 4 ∙ ap₂ bit_xor (fourth_is (horner x y n)) (low_bits (x / 2 ^ n) y)
+-- of the eight shifts of a * 16 the first four drop nothing
+pub four_of_eight : (a : ℕ) → v_after (a * 16) 8 ≡ v_after a 4
+unfolding v_after
+four_of_eight a = ap (λ n. v_after n 4) (v_after_16 a)
+
+v_after_256 : (a : ℕ) → v_after (a * 256) 8 ≡ a
+v_after_256 a = (let p : a * 256 ≡ a * 16 * 16 = omega arith in ap (λ n. v_after n 8) p) ∙ four_of_eight (a * 16) ∙ v_after_16 a
+
+eighth_is : (v : ℕ) → v_after v 8 ≡ eighth v
+eighth_is v =
+    let s : v ≡ bit_xor (v / 256 * 2 ^ 8) (v % 256) = (let e : v ≡ v / 256 * 256 + v % 256 = omega arith in e) ∙ sym (xor_shifted (v / 256) 8 (v % 256) (omega arith)) in
+    ap (λ n. v_after n 8) s ∙ v_after_xor (v / 256 * 256) (v % 256) 8 ∙ ap (λ n. bit_xor n (v_after (v % 256) 8)) (v_after_256 (v / 256))
+
+-- the product with the last eight bits, from the products with either half of them
+byte_product : (q y b : ℕ) → q % 256 ≡ b → horner q y 8 ≡ bit_xor (fourth (horner (b % 16) y 4)) (horner (b / 16) y 4)
+byte_product q y b e =
+    let l : q % 16 ≡ b % 16 = omega arith in
+    let h : q / 2 ^ 4 % 16 ≡ b / 16 = omega arith in
+    horner_more q y 4 4
+    ∙ ap₂ bit_xor (fourth_is (horner q y 4) ∙ ap fourth (low_bits q y ∙ ap (λ t. horner t y 4) l)) (low_bits (q / 2 ^ 4) y ∙ ap (λ t. horner t y 4) h)
+
+-- one step of the loop over the bytes
+pub horner_byte : (x y n b m : ℕ) → n + 8 ≡ m → x / 2 ^ n % 256 ≡ b → horner x y m ≡ bit_xor (eighth (horner x y n)) (bit_xor (fourth (horner (b % 16) y 4)) (horner (b / 16) y 4))
+horner_byte x y n b m e f = ap (horner x y) (sym e) ∙ horner_more x y n 8 ∙ ap₂ bit_xor (eighth_is (horner x y n)) (byte_product (x / 2 ^ n) y b f)
+
+-- the bytes, the lowest first
+pow_256 : (i : ℕ) → 256 ^ i ≡ 2 ^ (8 * i)
+pow_256 zero = refl
+pow_256 (suc i) =
+    let e : 8 * suc i ≡ 8 * i + 8 = omega arith in
+    pow-suc 256 i ∙ ap (λ k. k * 256) (pow_256 i) ∙ sym (ap (λ k. 2 ^ k) e ∙ pow-add 2 (8 * i) 8)
+
+byte_at_is : (i x : ℕ) → byte_at i x ≡ x / 2 ^ (8 * i) % 256
+byte_at_is zero x = omega arith
+byte_at_is (suc i) x = ap (λ k. x / k % 256) (pow_256 (suc i))
+
+pub byte_of : (x i : ℕ) → i < 16 → get_or (to_le_bytes w128 x) i 0 ≡ x / 2 ^ (8 * i) % 256
+byte_of x i h = get_or-map-range_with_len (λ j. byte_at j x) 0 16 i i 0 h (omega arith) ∙ byte_at_is i x
 
 pub horner_none : (x y : ℕ) → horner x y 0 ≡ 0
 unfolding horner

@@ -15,3 +15,7 @@ horner x y (suc n) = added (x / 2 ^ n % 2 == 1) (halved (horner x y n)) y
 -- four shifts
 abbrev pub fourth : ℕ → ℕ
 fourth v = bit_xor (v / 16) (v_after (v % 16) 4)
+
+-- eight shifts
+abbrev pub eighth : ℕ → ℕ
+eighth v = bit_xor (v / 256) (v_after (v % 256) 8)

@@ -1,49 +1,50 @@
-// GHASH, the hash of GCM, four bits at a time.
+// GHASH, the hash of GCM, a byte at a time.
 ghost use Rattle.std.specs.Prelude.{◌≡◌, ℕ, ◌*◌, ◌^◌, ◌<◌, length, ◌==◌, slice_index};
 ghost use Rattle.cipher.specs.Ghash as spec;
-ghost use Rattle.cipher.specs.Horner.{added, horner, fourth};
+ghost use Rattle.cipher.specs.Ghash.{v_after};
+ghost use Rattle.cipher.specs.Horner.{added, horner, fourth, eighth};
 
 use crate::session::block_of;
 use std::array;
 
-// What four shifts make of the four bits that fall out.
-const REDUCED: [u128; 16] = [
-    0x00000000000000000000000000000000,
-    0x1c200000000000000000000000000000,
-    0x38400000000000000000000000000000,
-    0x24600000000000000000000000000000,
-    0x70800000000000000000000000000000,
-    0x6ca00000000000000000000000000000,
-    0x48c00000000000000000000000000000,
-    0x54e00000000000000000000000000000,
-    0xe1000000000000000000000000000000,
-    0xfd200000000000000000000000000000,
-    0xd9400000000000000000000000000000,
-    0xc5600000000000000000000000000000,
-    0x91800000000000000000000000000000,
-    0x8da00000000000000000000000000000,
-    0xa9c00000000000000000000000000000,
-    0xb5e00000000000000000000000000000,
-];
-
+// One shift.
 fn shifted(v: u128) -> u128
     ensures { result ≡ spec.halved v }
 {
     (v / 2) ^ (v % 2 * 0xe1000000000000000000000000000000)
 }
 
+// What eight shifts make of the byte that falls out; in closed form, so that no turn waits for a table.
+fn reduced(b: u8) -> u128
+    ensures { result ≡ v_after b 8 }
+{
+    let b = b as u16;
+    (((b << 8) ^ (b << 7) ^ (b << 6) ^ (b << 1)) as u128) << 112
+}
+
+// Four shifts. The four bits fall out as the upper half of a byte, whose first four shifts drop nothing.
 fn shifted4(v: u128) -> u128
     ensures { result ≡ fourth v }
 {
-    (v / 16) ^ REDUCED[(v % 16) as usize]
+    (v / 16) ^ reduced((v % 16 * 16) as u8)
 }
 
-// A field element with its products with each number of four bits.
+// Eight shifts.
+fn shifted8(v: u128) -> u128
+    ensures { result ≡ eighth v }
+{
+    (v / 256) ^ reduced((v % 256) as u8)
+}
+
+// A field element, its products with each number of four bits, and four shifts of each: so a turn of `times` waits only
+// for the eight shifts.
 #[derive(Drop)]
 pub(crate) struct Factor {
     value: u128,
-    products: [u128; 16],
-    ghost made: { (t : ℕ) → t < 16 → slice_index products t ≡ horner t value 4 },
+    high: [u128; 16],
+    low: [u128; 16],
+    ghost high_made: { (t : ℕ) → t < 16 → slice_index high t ≡ horner t value 4 },
+    ghost low_made: { (t : ℕ) → t < 16 → slice_index low t ≡ fourth (horner t value 4) },
 }
 
 fn added_if(bit: u8, z: u128, v: u128) -> u128
@@ -68,17 +69,17 @@ impl Factor {
     pub(crate) fn new(value: u128) -> Self
         ensures { result.value ≡ value }
     {
-        let products = array::from_fn(|t| small_product(t as u8, value));
-        Factor { value, products }
+        let high = array::from_fn(|t| small_product(t as u8, value));
+        let low = high.map(shifted4);
+        Factor { value, high, low }
     }
 
     fn times(&self, x: u128) -> u128
         ensures { result ≡ spec.times x self.now.value }
     {
         let mut w = 0;
-        // `i` is the place of four bits, and no index: there is nothing to iterate over.
-        for i in 0..32u32 {
-            w = shifted4(w) ^ self.products[((x >> (4 * i)) % 16) as usize];
+        for b in x.to_le_bytes() {
+            w = shifted8(w) ^ (self.low[(b % 16) as usize] ^ self.high[(b / 16) as usize]);
         }
         w
     }
