@@ -3,5 +3,4 @@ pub mod Tables
 pub mod Sboxes
 pub mod Opens
 pub mod Streams
-pub mod Ghashes
 pub mod Horners
