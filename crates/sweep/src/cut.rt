@@ -1,7 +1,9 @@
 // One cut: the power goes while something is sent, comes back, and something is sent again; and what the board says to boot questions.
 ghost use Rattle.std.specs.Prelude.{◌≡◌, IfOk};
+ghost use Rattle.cipher.specs.Aes.{aes};
+ghost use Rattle.cipher.specs.Ccm.{ccm};
 ghost use Rattle.rules.specs.Board.{run};
-ghost use Rattle.sweep.specs.Cuts.{cut_at, power_back, said_at};
+ghost use Rattle.sweep.specs.Cuts.{board_on, cut_at, power_back, said_at, steps_taken};
 
 use crate::borrowed::Borrowed;
 use board::Board;
@@ -20,7 +22,9 @@ pub struct Cut {
 }
 
 // A board over a memory that is lent to it.
-fn board_over<M: Memory>(memory: &mut M) -> Board<Borrowed<'_, M>, Ccm<Aes128>> {
+fn board_over<M: Memory>(memory: &mut M) -> Board<Borrowed<'_, M>, Ccm<Aes128>>
+    ensures { result ≡ board_on (M.meaning memory.old) }
+{
     Board::new(Borrowed { below: memory })
 }
 
@@ -60,7 +64,11 @@ pub(crate) fn cut_power<M: Memory>(
     memory: &mut M,
     calls: &[Event],
     steps: u32,
-) -> Result<Cut, AllocError> {
+) -> Result<Cut, AllocError>
+    ensures gone { IfOk result (λ cut. cut.gone ≡ said_at (ccm aes) (cut_at (ccm aes) steps calls.now (board_on (M.meaning memory.old)))) }
+    ensures back { IfOk result (λ cut. cut.back ≡ said_at (ccm aes) (power_back (ccm aes) (cut_at (ccm aes) steps calls.now (board_on (M.meaning memory.old))))) }
+    ensures held { IfOk result (λ cut. cut.held ≡ (M.meaning memory.new).contents.held) }
+{
     let mut board = board_over(memory);
     let (gone, back) = ask_twice(heap, &mut board, calls, steps)?;
     Ok(Cut {
@@ -75,7 +83,9 @@ pub(crate) fn again<M: Memory>(
     heap: Global,
     memory: &mut M,
     calls: &[Event],
-) -> Result<Option<Boot>, AllocError> {
+) -> Result<Option<Boot>, AllocError>
+    ensures { IfOk result (λ said. said ≡ said_at (ccm aes) (run (ccm aes) (board_on (M.meaning memory.old)) calls.now)) }
+{
     ask_after(heap, &mut board_over(memory), calls)
 }
 
@@ -84,7 +94,9 @@ pub(crate) fn steps_of<M: Memory>(
     heap: Global,
     memory: &mut M,
     calls: &[Event],
-) -> Result<u32, AllocError> {
+) -> Result<u32, AllocError>
+    ensures { IfOk result (λ steps. steps ≡ steps_taken (M.meaning memory.new).supply) }
+{
     memory.set_supply(Supply::Steps(LARGE));
     let mut board = board_over(memory);
     board.run(heap, calls)?;
