@@ -1,5 +1,7 @@
 // Two programs at the same places of the map, an old one and a new one, among bytes that fill the rest of it.
-ghost use Rattle.std.specs.Prelude.{◌≡◌, ◌%◌, length};
+ghost use Rattle.std.specs.Prelude.{◌≡◌, ◌%◌, true, length};
+ghost use Rattle.memory.specs.Meaning.{Performs, all_in_map};
+ghost use Rattle.sweep.specs.Fillings.{area_fillers, map_fillers};
 ghost use Rattle.sweep.specs.Programs.{program_answer, program_left, with_program};
 
 use fault::Fault;
@@ -14,7 +16,10 @@ fn filler(address: u32) -> u8
     (address % 251) as u8
 }
 
-fn fill_area<M: Memory>(memory: &mut M, area: &Area) -> Result<(), Fault> {
+fn fill_area<M: Memory>(memory: &mut M, area: &Area) -> Result<(), Fault>
+    requires { all_in_map (area_fillers area.now) ≡ true }
+    ensures { Performs (area_fillers area.now) (M.meaning memory.old) (M.meaning memory.new) result }
+{
     for address in area.first..=area.last {
         memory.store(address, filler(address))?;
     }
@@ -22,7 +27,9 @@ fn fill_area<M: Memory>(memory: &mut M, area: &Area) -> Result<(), Fault> {
 }
 
 // Fills the map.
-pub(crate) fn fill<M: Memory>(memory: &mut M) -> Result<(), Fault> {
+pub(crate) fn fill<M: Memory>(memory: &mut M) -> Result<(), Fault>
+    ensures { Performs map_fillers (M.meaning memory.old) (M.meaning memory.new) result }
+{
     for area in AREAS.iter() {
         fill_area(memory, area)?;
     }
