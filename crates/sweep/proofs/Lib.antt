@@ -1,1 +1,2 @@
 pub mod Fillers
+pub mod Preparing

@@ -2,5 +2,6 @@
 pub mod Bars
 pub mod Cuts
 pub mod Fillings
+pub mod Kinds
 pub mod Programs
 pub mod Tallies

@@ -2,8 +2,9 @@
 use Rattle.std.specs.Prelude.{◌≡◌, ℕ, ◌-◌, ◌⊎◌, cond, is_ok, List, [], ◌∷◌, ◌++◌, take, drop, replicate, Result}
 use Rattle.fault.specs.declared.Fault.{Fault}
 use Rattle.fault.specs.Checks.{then}
-use Rattle.memory.specs.Meaning.{Meaning}
+use Rattle.memory.specs.Meaning.{Meaning, answer_of, left_by, performed}
 use Rattle.memory.specs.Steps.{data_answer, data_left}
+use Rattle.sweep.specs.Fillings.{map_fillers}
 
 -- the bytes of one list from place a up to place b, in the place of those of another
 abbrev pub part_over : ℕ → ℕ → List ℕ → List ℕ → List ℕ
@@ -26,3 +27,7 @@ abbrev pub program_left : ℕ → Meaning → Meaning
 program_left v m =
     let half = data_left 0x4400 (replicate 512 v) m in
     cond (is_ok (data_answer 0x4400 (replicate 512 v) m)) (data_left 0xFFFE (0x00 ∷ 0x44 ∷ []) half) half
+
+-- what filling the map answers, and laying the program of a version over it
+abbrev pub prepared_answer : ℕ → Meaning → Result (Unit {0}) Fault
+prepared_answer v m = let filled = performed map_fillers m in then (answer_of filled) (program_answer v (left_by filled))
