@@ -1,2 +1,3 @@
 pub mod Fillers
 pub mod Preparing
+pub mod Sending

@@ -3,5 +3,6 @@ pub mod Bars
 pub mod Cuts
 pub mod Fillings
 pub mod Kinds
+pub mod Plans
 pub mod Programs
 pub mod Tallies

@@ -1,4 +1,7 @@
 // What is cut, and what is sent again behind the cut: as lists of calls.
+ghost use Rattle.std.specs.Prelude.{◌≡◌, ℕ, ◌<◌, ◌++◌, IfErr, IfOk, OnErr, OnOk};
+ghost use Rattle.sweep.specs.Plans.{erase_calls, key_calls, parts_calls, update_calls};
+
 use anyhow::anyhow;
 use cipher::{Aes128, BlockCipher, Ccm};
 use example::{COUNT, pack_part, push_frame};
@@ -23,8 +26,11 @@ pub struct Plan {
     pub again: Vec<Event>,
 }
 
-// Adds the calls that send the update of version 2, sealed under a key.
-fn push_update(events: &mut Vec<Event>, key: &[u8; 16]) -> anyhow::Result<()> {
+// Adds the calls that send the update of version 2, sealed under a key; without memory for all of them, those of its first parts.
+fn push_update(events: &mut Vec<Event>, key: &[u8; 16]) -> anyhow::Result<()>
+    ensures all { OnOk result (events.new.items ≡ events.old.items ++ update_calls key.now) }
+    ensures some { IfErr result (λ _. (n : ℕ) × (n < 3) × (events.new.items ≡ events.old.items ++ parts_calls key.now n)) }
+{
     for number in 1..COUNT + 1 {
         let frame = pack_part(key, 2, number)?;
         push_frame(events, frame.as_slice())?;
@@ -32,7 +38,11 @@ fn push_update(events: &mut Vec<Event>, key: &[u8; 16]) -> anyhow::Result<()> {
     Ok(())
 }
 
-fn push_key(events: &mut Vec<Event>) -> anyhow::Result<()> {
+// Adds the calls that send the new key; without memory for them nothing is added.
+fn push_key(events: &mut Vec<Event>) -> anyhow::Result<()>
+    ensures all { OnOk result (events.new.items ≡ events.old.items ++ key_calls) }
+    ensures none { OnErr result (events.new.items ≡ events.old.items) }
+{
     let packet = KeyPacket {
         kind: 0,
         version: 1,
@@ -44,7 +54,11 @@ fn push_key(events: &mut Vec<Event>) -> anyhow::Result<()> {
     Ok(())
 }
 
-fn push_erase(events: &mut Vec<Event>) -> anyhow::Result<()> {
+// Adds the calls that send a mass erase; without memory for them nothing is added.
+fn push_erase(events: &mut Vec<Event>) -> anyhow::Result<()>
+    ensures all { OnOk result (events.new.items ≡ events.old.items ++ erase_calls) }
+    ensures none { OnErr result (events.new.items ≡ events.old.items) }
+{
     let mut frame = [0; 6];
     if write_frame(&mut frame, &[0x15]).is_none() {
         return Err(anyhow!("no frame"));
@@ -54,7 +68,10 @@ fn push_erase(events: &mut Vec<Event>) -> anyhow::Result<()> {
 }
 
 // An update over an old program; the update is sent again.
-pub(crate) fn update_plan(heap: Global) -> anyhow::Result<Plan> {
+pub(crate) fn update_plan(heap: Global) -> anyhow::Result<Plan>
+    ensures cut { IfOk result (λ plan. plan.cut.items ≡ update_calls KEY) }
+    ensures again { IfOk result (λ plan. plan.again.items ≡ update_calls KEY) }
+{
     let mut cut = Vec::new(heap);
     push_update(&mut cut, &KEY)?;
     let again = cut.clone()?;
@@ -66,7 +83,10 @@ pub(crate) fn update_plan(heap: Global) -> anyhow::Result<Plan> {
 }
 
 // A new data key; the key is sent again, and an update under it.
-pub(crate) fn key_plan(heap: Global) -> anyhow::Result<Plan> {
+pub(crate) fn key_plan(heap: Global) -> anyhow::Result<Plan>
+    ensures cut { IfOk result (λ plan. plan.cut.items ≡ key_calls) }
+    ensures again { IfOk result (λ plan. plan.again.items ≡ key_calls ++ update_calls NEW_KEY) }
+{
     let mut cut = Vec::new(heap);
     push_key(&mut cut)?;
     let mut again = cut.clone()?;
@@ -79,7 +99,10 @@ pub(crate) fn key_plan(heap: Global) -> anyhow::Result<Plan> {
 }
 
 // A mass erase; an update is sent.
-pub(crate) fn erase_plan(heap: Global) -> anyhow::Result<Plan> {
+pub(crate) fn erase_plan(heap: Global) -> anyhow::Result<Plan>
+    ensures cut { IfOk result (λ plan. plan.cut.items ≡ erase_calls) }
+    ensures again { IfOk result (λ plan. plan.again.items ≡ update_calls KEY) }
+{
     let mut cut = Vec::new(heap);
     push_erase(&mut cut)?;
     let mut again = Vec::new(heap);
