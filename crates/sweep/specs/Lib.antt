@@ -5,4 +5,5 @@ pub mod Fillings
 pub mod Kinds
 pub mod Plans
 pub mod Programs
+pub mod Sweeps
 pub mod Tallies

@@ -42,7 +42,19 @@ fn is_either(image: &[u8], first: &[u8], second: &[u8]) -> bool
 }
 
 impl Images {
-    pub(crate) fn new(heap: Global, kind: Kind, held: Held) -> anyhow::Result<Images> {
+    ghost use Rattle.std.specs.Prelude.{ℕ, ◌+◌, ◌<◌, ◌≤◌, min, Option, IfOk, OnErr, OnOk};
+    ghost use Rattle.rules.specs.declared.Boot.{Boot};
+    ghost use Rattle.sweep.specs.Kinds.{board_of_kind};
+    ghost use Rattle.sweep.specs.Sweeps.{back_said, gone_said, NoHalf};
+    ghost use Rattle.sweep.specs.Tallies.{tallied};
+
+    // The images of a kind, with the old program's in the board's place.
+    pub(crate) fn new(heap: Global, kind: Kind, held: Held) -> anyhow::Result<Images>
+        ensures kind { IfOk result (λ images. images.kind ≡ kind) }
+        ensures held { IfOk result (λ images. images.held ≡ held) }
+        ensures image { IfOk result (λ images. images.image.items ≡ images.earlier.items) }
+        ensures stood { IfOk result (λ images. images.stood.items ≡ images.earlier.items) }
+    {
         let mut earlier = vec![in heap; 0u8; 61056]?;
         kind.prepare(&mut earlier, held, 1)?;
         let mut later = vec![in heap; 0u8; 61056]?;
@@ -60,7 +72,9 @@ impl Images {
     }
 
     // How many storing steps the calls of a plan take on the old program.
-    pub(crate) fn steps_of(&mut self, heap: Global, plan: &Plan) -> anyhow::Result<u32> {
+    pub(crate) fn steps_of(&mut self, heap: Global, plan: &Plan) -> anyhow::Result<u32>
+        ensures { IfOk result (λ steps. steps ≤ 1000000) }
+    {
         self.image.copy_from_slice(&self.earlier);
         self.kind
             .steps_of(heap, &mut self.image, self.held, &plan.cut)
@@ -71,6 +85,7 @@ impl Images {
     fn boots_half(&mut self, said: Option<Boot>) -> bool
         ensures half { result ≡ false → said ≡ Some Application → WholeProgram self.old.earlier.items self.old.later.items self.old.stood.items self.old.image.items }
         ensures stood { self.new.stood.items ≡ self.old.image.items }
+        ensures kept { (self.new.kind ≡ self.old.kind) × (self.new.held ≡ self.old.held) × (self.new.earlier.items ≡ self.old.earlier.items) × (self.new.later.items ≡ self.old.later.items) × (self.new.image.items ≡ self.old.image.items) }
     {
         copy_program(&mut self.stood, &self.later);
         let whole = is_either(&self.image, &self.earlier, &self.stood);
@@ -78,14 +93,21 @@ impl Images {
         matches!(said, Some(Boot::Application)) && !whole
     }
 
-    // Cuts the power at a step of a plan, and notes what the board says.
+    // Cuts the power at a step of a plan, and notes what the board says; without memory for it nothing is noted.
     pub(crate) fn cut(
         &mut self,
         heap: Global,
         plan: &Plan,
         step: u32,
         report: &mut Report,
-    ) -> anyhow::Result<()> {
+    ) -> anyhow::Result<()>
+        ensures kept { (self.new.kind ≡ self.old.kind) × (self.new.held ≡ self.old.held) × (self.new.earlier.items ≡ self.old.earlier.items) × (self.new.later.items ≡ self.old.later.items) }
+        ensures none { OnErr result (report.new ≡ report.old) }
+        ensures cuts { OnOk result (report.new.cuts ≡ min (report.old.cuts + 1) 0xFFFFFFFF) }
+        ensures gone { OnOk result (report.new.gone ≡ tallied (gone_said step plan.now.cut.items (board_of_kind self.old.kind self.old.earlier.items self.old.held)) step report.old.gone) }
+        ensures back { OnOk result (report.new.back ≡ tallied (back_said step plan.now.cut.items (board_of_kind self.old.kind self.old.earlier.items self.old.held)) step report.old.back) }
+        ensures again { OnOk result ((said : Option Boot) × (report.new.again ≡ tallied said step report.old.again) × (report.new.half ≡ report.old.half → report.old.half < 0xFFFFFFFF → NoHalf self.old.earlier.items self.old.later.items self.new.image.items (back_said step plan.now.cut.items (board_of_kind self.old.kind self.old.earlier.items self.old.held)) said)) }
+    {
         self.image.copy_from_slice(&self.earlier);
         self.stood.copy_from_slice(&self.earlier);
         let kind = self.kind;

@@ -1,0 +1,34 @@
+-- What a cut of a sweep says and shows.
+use Rattle.std.specs.Prelude.{◌≡◌, ℕ, ◌-◌, List, Some, Option}
+use Rattle.cipher.specs.Aes.{aes}
+use Rattle.cipher.specs.Ccm.{ccm}
+use Rattle.rules.specs.Board.{State}
+use Rattle.rules.specs.declared.Boot.{Boot}
+use Rattle.rules.specs.declared.Boot.TheVariants.{Application}
+use Rattle.rules.specs.declared.Event.{Event}
+use Rattle.sweep.specs.Cuts.{cut_at, power_back, said_at}
+use Rattle.sweep.specs.Programs.{WholeProgram}
+
+-- a board whose power goes at a step of the calls: the steps before it are kept
+abbrev pub cut_before : ℕ → List Event → State → State
+cut_before step calls s = cut_at (ccm aes) (step - 1) calls s
+
+-- what is said with the power gone there
+abbrev pub gone_said : ℕ → List Event → State → Option Boot
+gone_said step calls s = said_at (ccm aes) (cut_before step calls s)
+
+-- and with the power back
+abbrev pub back_said : ℕ → List Event → State → Option Boot
+back_said step calls s = said_at (ccm aes) (power_back (ccm aes) (cut_before step calls s))
+
+-- if an application is said to be there, the image is the old program's, or has the new one over what stood there before
+abbrev pub BootsWhole : List ℕ → List ℕ → Option Boot → List ℕ → List ℕ → Type 0
+BootsWhole old new said stood image = said ≡ Some Application → WholeProgram old new stood image
+
+-- No half program was booted, with the power back or when something was sent again.
+pub record NoHalf (old new last : List ℕ) (back again : Option Boot) : Type 0 where
+  -- the image behind the cut, over the old program's
+  pub between : List ℕ
+  pub back_whole : BootsWhole old new back old between
+  -- the last image, over that one
+  pub again_whole : BootsWhole old new again between last
