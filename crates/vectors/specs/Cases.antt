@@ -10,9 +10,12 @@ use Rattle.packer.specs.declared.packet.DataPacket.{DataPacket}
 use Rattle.packer.specs.declared.packet.KeyPacket.{KeyPacket}
 use Rattle.text.specs.Hex.{block_read, hex_read}
 use Rattle.text.specs.Numbers.{and_then}
-use Rattle.vectors.specs.Answers.{sealed}
+use Rattle.vectors.specs.Answers.{opened, sealed}
+use Rattle.vectors.specs.Words.{sealing_read}
+use Rattle.vectors.specs.declared.words.DataFields.{DataFields}
 use Rattle.vectors.specs.declared.words.Mode.{Mode}
 use Rattle.vectors.specs.declared.words.Mode.TheVariants.{Ccm, Gcm}
+use Rattle.vectors.specs.declared.words.Sealing.{Sealing}
 
 -- the packet cipher of a mode
 abbrev pub cipher_of : Mode → Cipher
@@ -39,3 +42,26 @@ data_packed C key iv p room = cond (nat_le room 1024) (Some (packed_data C key i
 
 abbrev pub key_packed : Cipher → List ℕ → List ℕ → KeyPacket → ℕ → Option (Result (List ℕ) Fault)
 key_packed C kek iv p room = cond (nat_le room 1024) (Some (packed_key C kek iv p room)) None
+
+-- the packet of some fields and data, wherever the data stand
+abbrev pub packet_of : DataFields → List ℕ → DataPacket
+packet_of f bs = record { version = f.version; number = f.number; count = f.count; address = f.address; bytes = record { ref_ptr = (0, 0); now = bs } }
+
+-- a body, for the words of what seals it and of the contents
+abbrev pub seal_read : List ℕ → List ℕ → List ℕ → List ℕ → Option (Result (List ℕ) Fault)
+seal_read cipher key iv contents =
+    and_then (sealing_read cipher key iv) (λ w. and_then (bytes_read contents) (λ bs. sealed_short (cipher_of w.mode) w.key w.iv bs))
+
+-- contents, for the words of what opens them and of the body
+abbrev pub open_read : List ℕ → List ℕ → List ℕ → List ℕ → Option (Result (List ℕ) Fault)
+open_read cipher key iv body =
+    and_then (sealing_read cipher key iv) (λ w. and_then (bytes_read body) (λ bs. Some (opened (cipher_of w.mode) w.key w.iv bs)))
+
+-- a frame, for what seals it, the fields and the word of the data
+abbrev pub data_given : Option Sealing → Option DataFields → List ℕ → Option (Result (List ℕ) Fault)
+data_given with fields bytes =
+    and_then with (λ w. and_then fields (λ f. and_then (bytes_read bytes) (λ bs. data_packed (cipher_of w.mode) w.key w.iv (packet_of f bs) f.room)))
+
+-- a frame, for what seals it, a key packet and the room
+abbrev pub key_given : Option Sealing → Option KeyPacket → Option ℕ → Option (Result (List ℕ) Fault)
+key_given with packet room = and_then with (λ w. and_then packet (λ p. and_then room (λ r. key_packed (cipher_of w.mode) w.key w.iv p r)))

@@ -2,7 +2,7 @@
 ghost use Rattle.std.specs.Prelude.{◌≡◌, IfOk, vec_items};
 ghost use Rattle.std.specs.Option.{option_map};
 ghost use Rattle.vectors.specs.Answers.{opened};
-ghost use Rattle.vectors.specs.Cases.{block_read_answer, bytes_read, cipher_of, data_packed, key_packed, sealed_short};
+ghost use Rattle.vectors.specs.Cases.{block_read_answer, bytes_read, cipher_of, data_given, data_packed, key_given, key_packed, open_read, seal_read, sealed_short};
 
 use crate::answers::{
     Bytes, ROOM_MAX, block_answer, data_answer, key_answer, open_answer, seal_answer,
@@ -86,7 +86,9 @@ fn seal_case(
     key: &str,
     iv: &str,
     contents: &str,
-) -> Result<Option<Answer>, AllocError> {
+) -> Result<Option<Answer>, AllocError>
+    ensures { IfOk result (λ o. o ≡ seal_read cipher.now key.now iv.now contents.now) }
+{
     let (Some(with), Some(bytes)) = (sealing_of(cipher, key, iv), bytes_of(heap, contents)?) else {
         return Ok(None);
     };
@@ -99,7 +101,9 @@ fn open_case(
     key: &str,
     iv: &str,
     body: &str,
-) -> Result<Option<Answer>, AllocError> {
+) -> Result<Option<Answer>, AllocError>
+    ensures { IfOk result (λ o. o ≡ open_read cipher.now key.now iv.now body.now) }
+{
     let (Some(with), Some(bytes)) = (sealing_of(cipher, key, iv), bytes_of(heap, body)?) else {
         return Ok(None);
     };
@@ -111,7 +115,9 @@ fn data_case(
     with: Option<Sealing>,
     fields: Option<DataFields>,
     data: &str,
-) -> Result<Option<Answer>, AllocError> {
+) -> Result<Option<Answer>, AllocError>
+    ensures { IfOk result (λ o. o ≡ data_given with fields «data».now) }
+{
     let (Some(with), Some(fields), Some(bytes)) = (with, fields, bytes_of(heap, data)?) else {
         return Ok(None);
     };
@@ -119,11 +125,9 @@ fn data_case(
     Ok(data_with(&with, &packet, fields.room))
 }
 
-fn key_case(
-    with: Option<Sealing>,
-    packet: Option<KeyPacket>,
-    room: Option<usize>,
-) -> Option<Answer> {
+fn key_case(with: Option<Sealing>, packet: Option<KeyPacket>, room: Option<usize>) -> Option<Answer>
+    ensures { result ≡ key_given with packet room }
+{
     key_with(&with?, &packet?, room?)
 }
 
