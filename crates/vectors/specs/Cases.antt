@@ -1,5 +1,6 @@
 -- What cases give; nothing for a line that is no case.
-use Rattle.std.specs.Prelude.{ℕ, cond, List, [], ◌∷◌, length, Some, None, Ok, Option, Result, ◌==◌, nat_le}
+use Rattle.std.specs.Prelude.{ℕ, cond, List, [], ◌∷◌, codes, length, Some, None, Ok, Option, Result, ◌==◌, nat_le}
+use Rattle.std.specs.Str.{bytes_eq}
 use Rattle.fault.specs.declared.Fault.{Fault}
 use Rattle.cipher.specs.Aes.{aes}
 use Rattle.cipher.specs.Ccm.{ccm}
@@ -8,10 +9,11 @@ use Rattle.cipher.specs.Gcm.{gcm}
 use Rattle.packer.specs.Packing.{packed_data, packed_key}
 use Rattle.packer.specs.declared.packet.DataPacket.{DataPacket}
 use Rattle.packer.specs.declared.packet.KeyPacket.{KeyPacket}
+use Rattle.text.specs.Decimal.{decimal_read}
 use Rattle.text.specs.Hex.{block_read, hex_read}
 use Rattle.text.specs.Numbers.{and_then}
 use Rattle.vectors.specs.Answers.{opened, sealed}
-use Rattle.vectors.specs.Words.{sealing_read}
+use Rattle.vectors.specs.Words.{data_read, key_read, sealing_read}
 use Rattle.vectors.specs.declared.words.DataFields.{DataFields}
 use Rattle.vectors.specs.declared.words.Mode.{Mode}
 use Rattle.vectors.specs.declared.words.Mode.TheVariants.{Ccm, Gcm}
@@ -65,3 +67,14 @@ data_given with fields bytes =
 -- a frame, for what seals it, a key packet and the room
 abbrev pub key_given : Option Sealing → Option KeyPacket → Option ℕ → Option (Result (List ℕ) Fault)
 key_given with packet room = and_then with (λ w. and_then packet (λ p. and_then room (λ r. key_packed (cipher_of w.mode) w.key w.iv p r)))
+
+-- the answer to the words of a case, of which the first says its kind
+abbrev pub answer_read : List (List ℕ) → Option (Result (List ℕ) Fault)
+answer_read (kind ∷ a ∷ b ∷ []) = cond (bytes_eq kind (codes "block")) (block_read_answer a b) None
+answer_read (kind ∷ a ∷ b ∷ c ∷ d ∷ []) =
+    cond (bytes_eq kind (codes "seal")) (seal_read a b c d) (cond (bytes_eq kind (codes "open")) (open_read a b c d) None)
+answer_read (kind ∷ a ∷ b ∷ c ∷ d ∷ e ∷ f ∷ g ∷ []) =
+    cond (bytes_eq kind (codes "key")) (key_given (sealing_read a b c) (key_read d e g) (decimal_read 4294967295 f)) None
+answer_read (kind ∷ a ∷ b ∷ c ∷ d ∷ e ∷ f ∷ g ∷ h ∷ i ∷ []) =
+    cond (bytes_eq kind (codes "data")) (data_given (sealing_read a b c) (data_read d e f g h) i) None
+answer_read _ = None

@@ -1,8 +1,8 @@
 // A case, one line of words, and its answer. None answers where the line is no case.
-ghost use Rattle.std.specs.Prelude.{◌≡◌, IfOk, vec_items};
+ghost use Rattle.std.specs.Prelude.{◌≡◌, map, IfOk, vec_items};
 ghost use Rattle.std.specs.Option.{option_map};
 ghost use Rattle.vectors.specs.Answers.{opened};
-ghost use Rattle.vectors.specs.Cases.{block_read_answer, bytes_read, cipher_of, data_given, data_packed, key_given, key_packed, open_read, seal_read, sealed_short};
+ghost use Rattle.vectors.specs.Cases.{answer_read, block_read_answer, bytes_read, cipher_of, data_given, data_packed, key_given, key_packed, open_read, seal_read, sealed_short};
 
 use crate::answers::{
     Bytes, ROOM_MAX, block_answer, data_answer, key_answer, open_answer, seal_answer,
@@ -132,7 +132,9 @@ fn key_case(with: Option<Sealing>, packet: Option<KeyPacket>, room: Option<usize
 }
 
 // The answer to the words of a case.
-pub(crate) fn answer_to(heap: Global, words: &[&str]) -> Result<Option<Answer>, AllocError> {
+pub(crate) fn answer_to(heap: Global, words: &[&str]) -> Result<Option<Answer>, AllocError>
+    ensures { IfOk result (λ o. o ≡ answer_read (map (λ w. w.now) words.now)) }
+{
     match words {
         ["block", key, block] => Ok(block_case(key, block)),
         ["seal", cipher, key, iv, contents] => seal_case(heap, cipher, key, iv, contents),
