@@ -48,14 +48,14 @@ impl From<&[u8; 16]> for Columns {
 impl From<Columns> for [u8; 16] {
     ghost from_gives = { λ s bytes. bytes ≡ flat s };
 
+    // A column at a time: a list of single bytes, tried, is written byte by byte, and read again only when all are there.
     fn from(s: Columns) -> Self {
-        let [a0, a1, a2, a3] = s.a.to_be_bytes();
-        let [b0, b1, b2, b3] = s.b.to_be_bytes();
-        let [c0, c1, c2, c3] = s.c.to_be_bytes();
-        let [d0, d1, d2, d3] = s.d.to_be_bytes();
-        [
-            a0, a1, a2, a3, b0, b1, b2, b3, c0, c1, c2, c3, d0, d1, d2, d3,
-        ]
+        let mut bytes = [0; 16];
+        bytes[..4].copy_from_slice(&s.a.to_be_bytes());
+        bytes[4..8].copy_from_slice(&s.b.to_be_bytes());
+        bytes[8..12].copy_from_slice(&s.c.to_be_bytes());
+        bytes[12..].copy_from_slice(&s.d.to_be_bytes());
+        bytes
     }
 }
 
