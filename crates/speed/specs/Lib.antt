@@ -1,0 +1,2 @@
+-- What is sent to a board while it is measured.
+pub mod Sending
