@@ -3,20 +3,23 @@ use Rattle.std.proofs.Common.{◌≡◌, ℕ, zero, suc, ◌+◌, ◌-◌, ◌*�
 use native.Mathlib.Nat.{suc-min-suc}
 use lib.Bits.{bit_xor, bit_or, xor_assoc, xor_self, xor_zero_r, or_add_and, and_le_r}
 use borrow.Author.Tests.{eqb-false}
-use Rattle.std.proofs.lemmas.List.{append_assoc, append-nil, take_all, drop_all, take_at, drop_at, set_split, take_more_set, drop-drop, length-set}
+use Rattle.std.proofs.Math.Seq.{take-suc}
+use Rattle.std.proofs.lemmas.List.{append_assoc, append-nil, take_all, drop_all, take_at, drop_at, drop-drop}
 use Rattle.cipher.specs.Bytes.{xors}
 use Rattle.cipher.specs.Blocks.{stream, padded, block_at, blocks, chain}
 use Rattle.cipher.specs.Sealing.{xor_from, same}
 use Rattle.cipher.specs.Schemes.{length_xor_from}
 
 -- a counter's bytes
-pub last_two : (xs : List ℕ) (a b : ℕ) → length xs ≡ 16 → set (set xs 14 a) 15 b ≡ take 14 xs ++ a ∷ b ∷ []
+pub last_two : (xs : List ℕ) (a b : ℕ) → length xs ≡ 16
+    → take 12 xs ++ ((get_or xs 12 0 ∷ get_or xs 13 0 ∷ a ∷ b ∷ []) ++ drop 4 (drop 12 xs)) ≡ take 14 xs ++ a ∷ b ∷ []
 last_two xs a b h =
-    let n = length-set xs 14 a in
-    let l : 15 < length (set xs 14 a) = omega arith in
-    let k : 14 < length xs = omega arith in
-    let d : drop 16 (set xs 14 a) ≡ [] = drop_all 16 (set xs 14 a) (omega arith) in
-    set_split (set xs 14 a) 15 b l ∙ ap₂ (λ p q. p ++ b ∷ q) (take_more_set xs 14 a k) d ∙ append_assoc (take 14 xs) (a ∷ []) (b ∷ [])
+    let d : drop 4 (drop 12 xs) ≡ [] = drop-drop 4 12 xs ∙ drop_all 16 xs (omega arith) in
+    let x = get_or xs 12 0 in
+    let y = get_or xs 13 0 in
+    let t : take 14 xs ≡ (take 12 xs ++ x ∷ []) ++ y ∷ [] = take-suc xs 13 0 (omega arith) ∙ ap (λ l. l ++ y ∷ []) (take-suc xs 12 0 (omega arith)) in
+    ap (λ l. take 12 xs ++ (x ∷ y ∷ a ∷ b ∷ l)) d
+    ∙ sym (ap (λ l. l ++ a ∷ b ∷ []) t ∙ append_assoc (take 12 xs ++ x ∷ []) (y ∷ []) (a ∷ b ∷ []) ∙ append_assoc (take 12 xs) (x ∷ []) (y ∷ a ∷ b ∷ []))
 
 -- `part[i] ^= pad[i]`
 xors_set : (xs ps : List ℕ) (i : ℕ) → i < length xs → i < length ps

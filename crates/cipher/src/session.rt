@@ -25,8 +25,7 @@ pub(crate) fn counter_block(iv: &[u8; 16], n: u16) -> [u8; 16]
 {
     let [high, low] = n.to_be_bytes();
     let mut b = *iv;
-    b[14] = high;
-    b[15] = low;
+    b[12..].copy_from_slice(&[iv[12], iv[13], high, low]);
     b
 }
 
