@@ -5,6 +5,7 @@ cd "$(dirname "$0")/.."
 work=$(mktemp -d)
 trap 'rm -rf "$work"' EXIT
 failed=0
+tried=0
 mkdir -p target
 crates/demo/out/demo target/update.frames > /dev/null || exit 1
 
@@ -15,6 +16,7 @@ block() {
 
 # compare N: whether a program printed block N
 compare() {
+    tried=$((tried + 1))
     block "$1" > "$work/want"
     if ! cmp "$work/got" "$work/want"; then
         cat "$work/got"
@@ -38,5 +40,5 @@ else
     echo 'tests/opening.sh: no libcrypto to compile against here'
 fi
 
-[ $failed = 0 ] && echo 'tests/opening.sh: as in docs/OPENING.md'
+[ $failed = 0 ] && [ $tried != 0 ] && echo "tests/opening.sh: $tried of 2 as in docs/OPENING.md"
 exit $failed
