@@ -1,5 +1,6 @@
 -- What a sweep counts, shows and compares.
 pub mod Bars
+pub mod Counts
 pub mod Cuts
 pub mod Fillings
 pub mod Kinds

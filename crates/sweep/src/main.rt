@@ -6,6 +6,7 @@ ghost use Rattle.std.specs.Prelude.{◌<◌, IfOk};
 
 mod bar;
 mod borrowed;
+mod counts;
 mod cut;
 mod kind;
 mod plans;
@@ -15,6 +16,7 @@ mod tally;
 
 use anyhow::anyhow;
 use bar::Bar;
+use counts::Counts;
 use kind::Kind;
 use memory::Held;
 use plans::{KEK, KEY, Plan};
@@ -111,7 +113,7 @@ fn sweep(rt: &HostRuntime, images: &mut Images, plan: &Plan, every: u32) -> anyh
     Ok(report)
 }
 
-fn sweep_all(rt: &HostRuntime, kind: Kind, every: u32) -> anyhow::Result<(u32, u32)>
+fn sweep_all(rt: &HostRuntime, kind: Kind, every: u32) -> anyhow::Result<Counts>
     requires { 0 < every }
 {
     let mut held = Held::fresh(KEY, KEK);
@@ -120,16 +122,7 @@ fn sweep_all(rt: &HostRuntime, kind: Kind, every: u32) -> anyhow::Result<(u32, u
     let update = sweep(rt, &mut images, &plans::update_plan(rt.alloc())?, 1)?;
     let key = sweep(rt, &mut images, &plans::key_plan(rt.alloc())?, 1)?;
     let erase = sweep(rt, &mut images, &plans::erase_plan(rt.alloc())?, every)?;
-    Ok((
-        update
-            .cuts
-            .saturating_add(key.cuts)
-            .saturating_add(erase.cuts),
-        update
-            .half
-            .saturating_add(key.half)
-            .saturating_add(erase.half),
-    ))
+    Ok(update.counts().and(key.counts()).and(erase.counts()))
 }
 
 // The program's argument, which says at how many steps of a mass erase the power is cut: at each where there is none.
@@ -149,14 +142,14 @@ fn stride(rt: &HostRuntime) -> anyhow::Result<u32>
     }
 }
 
+// An error where a half program was booted.
 fn main(rt: HostRuntime) -> anyhow::Result<()> {
     let every = stride(&rt)?;
-    let (cuts, half) = sweep_all(&rt, Kind::Lent, every)?;
-    let (more, more_half) = sweep_all(&rt, Kind::Scrambled, every)?;
-    let all = cuts.saturating_add(more);
-    match half.saturating_add(more_half) {
-        0 => println!(rt; "Of {all} cuts none booted a half program.")?,
-        some => println!(rt; "Of {all} cuts {some} booted a half program.")?,
+    let lent = sweep_all(&rt, Kind::Lent, every)?;
+    let all = lent.and(sweep_all(&rt, Kind::Scrambled, every)?);
+    if all.half > 0 {
+        return Err(anyhow!("Of {} cuts {} booted a half program.", all.cuts, all.half));
     }
+    println!(rt; "Of {} cuts none booted a half program.", all.cuts)?;
     Ok(())
 }

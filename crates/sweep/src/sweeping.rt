@@ -3,6 +3,7 @@ ghost use Rattle.std.specs.Prelude.{◌≡◌, ◌⊎◌, true, false, length, S
 ghost use Rattle.rules.specs.declared.Boot.TheVariants.{Application};
 ghost use Rattle.sweep.specs.Programs.{WholeProgram};
 
+use crate::counts::Counts;
 use crate::kind::Kind;
 use crate::plans::Plan;
 use crate::programs::copy_program;
@@ -20,6 +21,17 @@ pub struct Report {
     pub back: Tally,
     pub again: Tally,
     pub half: u32,
+}
+
+impl Report {
+    pub fn counts(&self) -> Counts
+        ensures { result ≡ record { cuts = self.now.cuts; half = self.now.half } }
+    {
+        Counts {
+            cuts: self.cuts,
+            half: self.half,
+        }
+    }
 }
 
 // The image of an old program, that of a new one, and room for the image of the board and for what stood there before.
