@@ -5,8 +5,8 @@ use Rattle.std.proofs.lemmas.Nat.{shr-shr, pow-add}
 use Rattle.std.proofs.Math.Nat.{pow-suc}
 use Rattle.std.proofs.lemmas.List.FromFn.{get_or-map-range_with_len}
 use Rattle.std.specs.Int.{w128, byte_at, to_le_bytes}
-use Rattle.cipher.specs.Ghash.{halved, v_after, z_after, times}
-use Rattle.cipher.specs.Horner.{added, horner, fourth, eighth}
+use Rattle.cipher.specs.Ghash.{times_x, v_after, z_after, times}
+use Rattle.cipher.specs.Horner.{added, horner, times_x4, times_x8}
 
 abbrev R : ℕ
 R = 0xe1000000000000000000000000000000
@@ -23,7 +23,7 @@ swap_middle : (a b c d : ℕ) → bit_xor (bit_xor a b) (bit_xor c d) ≡ bit_xo
 swap_middle a b c d =
     xor_assoc a b (bit_xor c d) ∙ ap (bit_xor a) (sym (xor_assoc b c d) ∙ ap (λ n. bit_xor n d) (xor_comm b c) ∙ xor_assoc c b d) ∙ sym (xor_assoc a c (bit_xor b d))
 
-pub halved_xor : (a b : ℕ) → halved (bit_xor a b) ≡ bit_xor (halved a) (halved b)
+pub halved_xor : (a b : ℕ) → times_x (bit_xor a b) ≡ bit_xor (times_x a) (times_x b)
 halved_xor a b =
     let p : bit_xor a b / 2 ≡ bit_xor (a / 2) (b / 2) = xor_shr a b 1 in
     let q : bit_xor a b % 2 * R ≡ bit_xor (a % 2 * R) (b % 2 * R) = ap (λ n. n * R) (xor_mod a b 1) ∙ bit_times (a % 2) (b % 2) (omega arith) (omega arith) in
@@ -32,21 +32,17 @@ halved_xor a b =
 pub v_after_xor : (a b i : ℕ) → v_after (bit_xor a b) i ≡ bit_xor (v_after a i) (v_after b i)
 unfolding v_after
 v_after_xor a b zero = refl
-v_after_xor a b (suc i) = ap halved (v_after_xor a b i) ∙ halved_xor (v_after a i) (v_after b i)
+v_after_xor a b (suc i) = ap times_x (v_after_xor a b i) ∙ halved_xor (v_after a i) (v_after b i)
 
 v_after_zero : (i : ℕ) → v_after 0 i ≡ 0
 unfolding v_after
 v_after_zero zero = refl
-v_after_zero (suc i) = ap halved (v_after_zero i)
+v_after_zero (suc i) = ap times_x (v_after_zero i)
 
-v_after_halved : (a i : ℕ) → v_after (halved a) i ≡ v_after a (suc i)
+v_after_halved : (a i : ℕ) → v_after (times_x a) i ≡ v_after a (suc i)
 unfolding v_after
 v_after_halved a zero = refl
-v_after_halved a (suc i) = ap halved (v_after_halved a i)
-
-added_is : (t : Bool) (z v : ℕ) → added t z v ≡ bit_xor z (added t 0 v)
-added_is true z v = ap (bit_xor z) (sym (xor_zero_l v))
-added_is false z v = sym (xor_zero_r z)
+v_after_halved a (suc i) = ap times_x (v_after_halved a i)
 
 v_after_added : (t : Bool) (z v i : ℕ) → v_after (added t z v) i ≡ added t (v_after z i) (v_after v i)
 v_after_added true z v i = v_after_xor z v i
@@ -64,7 +60,7 @@ both_ends x y (suc i) n e =
     let m : 127 - i ≡ n = omega arith in
     let b = eqb (x / 2 ^ n % 2) 1 in
     let s : v_after (horner x y (suc n)) i ≡ added b (v_after (horner x y n) (suc i)) (v_after y i) =
-    v_after_added b (halved (horner x y n)) y i ∙ ap (λ w. added b w (v_after y i)) (v_after_halved (horner x y n) i) in
+    v_after_added b (times_x (horner x y n)) y i ∙ ap (λ w. added b w (v_after y i)) (v_after_halved (horner x y n) i) in
     let z : z_after x y (suc i) ≡ cond b (bit_xor (z_after x y i) (v_after y i)) (z_after x y i) =
     ap (λ k. cond (eqb (x / 2 ^ k % 2) 1) (bit_xor (z_after x y i) (v_after y i)) (z_after x y i)) m in
     ap (λ w. bit_xor w (v_after (horner x y n) (suc i))) z
@@ -86,11 +82,11 @@ horner_more x y n zero = ap (horner x y) (add-zero n) ∙ sym (xor_zero_r (horne
 horner_more x y n (suc m) =
     let q = x / 2 ^ n in
     let b = eqb (q / 2 ^ m % 2) 1 in
-    let e : horner x y (n + suc m) ≡ added (eqb (x / 2 ^ (n + m) % 2) 1) (halved (horner x y (n + m))) y = ap (horner x y) (add-suc n m) in
+    let e : horner x y (n + suc m) ≡ added (eqb (x / 2 ^ (n + m) % 2) 1) (times_x (horner x y (n + m))) y = ap (horner x y) (add-suc n m) in
     let t : eqb (x / 2 ^ (n + m) % 2) 1 ≡ b = ap (λ k. eqb (k % 2) 1) (sym (shr-shr x n m)) in
-    let h : halved (horner x y (n + m)) ≡ bit_xor (v_after (horner x y n) (suc m)) (halved (horner q y m)) =
-    ap halved (horner_more x y n m) ∙ halved_xor (v_after (horner x y n) m) (horner q y m) in
-    e ∙ ap₂ (λ u w. added u w y) t h ∙ carry b (v_after (horner x y n) (suc m)) (halved (horner q y m)) y
+    let h : times_x (horner x y (n + m)) ≡ bit_xor (v_after (horner x y n) (suc m)) (times_x (horner q y m)) =
+    ap times_x (horner_more x y n m) ∙ halved_xor (v_after (horner x y n) m) (horner q y m) in
+    e ∙ ap₂ (λ u w. added u w y) t h ∙ carry b (v_after (horner x y n) (suc m)) (times_x (horner q y m)) y
 
 -- only the last four bits count
 low_bits : (x y : ℕ) → horner x y 4 ≡ horner (x % 16) y 4
@@ -102,7 +98,7 @@ low_bits x y =
     let d : x / 8 % 2 ≡ x % 16 / 8 % 2 = omega arith in
     rw (a, b, c, d)
 
-halved_even : (a : ℕ) → halved (a * 2) ≡ a
+halved_even : (a : ℕ) → times_x (a * 2) ≡ a
 halved_even a =
     let p : a * 2 / 2 ≡ a = omega arith in
     let q : a * 2 % 2 ≡ 0 = omega arith in
@@ -114,7 +110,7 @@ v_after_16 a =
     let p : a * 16 ≡ a * 2 * 2 * 2 * 2 = omega arith in
     rw (p, halved_even, halved_even, halved_even, halved_even)
 
-fourth_is : (v : ℕ) → v_after v 4 ≡ fourth v
+fourth_is : (v : ℕ) → v_after v 4 ≡ times_x4 v
 fourth_is v =
     let s : v ≡ bit_xor (v / 16 * 2 ^ 4) (v % 16) = (let e : v ≡ v / 16 * 16 + v % 16 = omega arith in e) ∙ sym (xor_shifted (v / 16) 4 (v % 16) (omega arith)) in
     ap (λ n. v_after n 4) s ∙ v_after_xor (v / 16 * 16) (v % 16) 4 ∙ ap (λ n. bit_xor n (v_after (v % 16) 4)) (v_after_16 (v / 16))
@@ -127,21 +123,21 @@ four_of_eight a = ap (λ n. v_after n 4) (v_after_16 a)
 v_after_256 : (a : ℕ) → v_after (a * 256) 8 ≡ a
 v_after_256 a = (let p : a * 256 ≡ a * 16 * 16 = omega arith in ap (λ n. v_after n 8) p) ∙ four_of_eight (a * 16) ∙ v_after_16 a
 
-eighth_is : (v : ℕ) → v_after v 8 ≡ eighth v
+eighth_is : (v : ℕ) → v_after v 8 ≡ times_x8 v
 eighth_is v =
     let s : v ≡ bit_xor (v / 256 * 2 ^ 8) (v % 256) = (let e : v ≡ v / 256 * 256 + v % 256 = omega arith in e) ∙ sym (xor_shifted (v / 256) 8 (v % 256) (omega arith)) in
     ap (λ n. v_after n 8) s ∙ v_after_xor (v / 256 * 256) (v % 256) 8 ∙ ap (λ n. bit_xor n (v_after (v % 256) 8)) (v_after_256 (v / 256))
 
 -- the product with the last eight bits, from the products with either half of them
-byte_product : (q y b : ℕ) → q % 256 ≡ b → horner q y 8 ≡ bit_xor (fourth (horner (b % 16) y 4)) (horner (b / 16) y 4)
+byte_product : (q y b : ℕ) → q % 256 ≡ b → horner q y 8 ≡ bit_xor (times_x4 (horner (b % 16) y 4)) (horner (b / 16) y 4)
 byte_product q y b e =
     let l : q % 16 ≡ b % 16 = omega arith in
     let h : q / 2 ^ 4 % 16 ≡ b / 16 = omega arith in
     horner_more q y 4 4
-    ∙ ap₂ bit_xor (fourth_is (horner q y 4) ∙ ap fourth (low_bits q y ∙ ap (λ t. horner t y 4) l)) (low_bits (q / 2 ^ 4) y ∙ ap (λ t. horner t y 4) h)
+    ∙ ap₂ bit_xor (fourth_is (horner q y 4) ∙ ap times_x4 (low_bits q y ∙ ap (λ t. horner t y 4) l)) (low_bits (q / 2 ^ 4) y ∙ ap (λ t. horner t y 4) h)
 
 -- one step of the loop over the bytes
-pub horner_byte : (x y n b m : ℕ) → n + 8 ≡ m → x / 2 ^ n % 256 ≡ b → horner x y m ≡ bit_xor (eighth (horner x y n)) (bit_xor (fourth (horner (b % 16) y 4)) (horner (b / 16) y 4))
+pub horner_byte : (x y n b m : ℕ) → n + 8 ≡ m → x / 2 ^ n % 256 ≡ b → horner x y m ≡ bit_xor (times_x8 (horner x y n)) (bit_xor (times_x4 (horner (b % 16) y 4)) (horner (b / 16) y 4))
 horner_byte x y n b m e f = ap (horner x y) (sym e) ∙ horner_more x y n 8 ∙ ap₂ bit_xor (eighth_is (horner x y n)) (byte_product (x / 2 ^ n) y b f)
 
 -- the bytes, the lowest first
@@ -162,6 +158,6 @@ pub horner_none : (x y : ℕ) → horner x y 0 ≡ 0
 unfolding horner
 horner_none x y = refl
 
-pub horner_next : (x y i : ℕ) → horner x y (i + 1) ≡ added (eqb (x / 2 ^ i % 2) 1) (halved (horner x y i)) y
+pub horner_next : (x y i : ℕ) → horner x y (i + 1) ≡ added (eqb (x / 2 ^ i % 2) 1) (times_x (horner x y i)) y
 unfolding horner
 horner_next x y i = rw add-one

@@ -6,7 +6,7 @@ use borrow.Author.Tests.{eqb-false}
 use Rattle.std.proofs.Math.Seq.{take-suc}
 use Rattle.std.proofs.lemmas.List.{append_assoc, append-nil, take_all, drop_all, take_at, drop_at, drop-drop}
 use Rattle.cipher.specs.Bytes.{xors}
-use Rattle.cipher.specs.Blocks.{stream, padded, block_at, blocks, chain}
+use Rattle.cipher.specs.Blocks.{stream, padded, block_at, chain}
 use Rattle.cipher.specs.Sealing.{xor_from, same}
 use Rattle.cipher.specs.Schemes.{length_xor_from}
 
@@ -145,10 +145,6 @@ module _ (d rest part left : List ℕ) (k size : ℕ) (es : size ≡ 16) (er : r
 
   pub part_within : 16 * (k + 1) < length d + 16
   part_within = omega (arith, ap length er, length-drop (16 * k) d, steps.2)
-
--- all parts of data were blocks
-pub all_parts : (d rest : List ℕ) (k : ℕ) → rest ≡ drop (16 * k) d → length rest ≡ 0 → 16 * k < length d + 16 → k ≡ blocks (length d)
-all_parts d rest k e z h = omega (arith, ap length e, length-drop (16 * k) d)
 
 -- one block more of a chain
 pub chain_more : {X : Type 0} (step : X → List ℕ → X) (x : X) (xs : List ℕ) (i : ℕ) → chain step x xs (i + 1) ≡ step (chain step x xs i) (block_at xs i)

@@ -35,9 +35,13 @@ triple b = bit_xor (xtime b) b
 abbrev pub xor4 : ℕ → ℕ → ℕ → ℕ → ℕ
 xor4 a b c d = bit_xor (bit_xor (bit_xor a b) c) d
 
--- what its first byte adds to a column in MixColumns; the others add the same, rotated
-abbrev pub row0 : ℕ → List ℕ
-row0 s = xtime s ∷ s ∷ s ∷ triple s ∷ []
+-- what the first byte of a column adds to it in MixColumns; the others add the same, rotated
+abbrev pub first_term : ℕ → List ℕ
+first_term s = xtime s ∷ s ∷ s ∷ triple s ∷ []
+
+-- what the third byte adds
+abbrev pub third_term : ℕ → List ℕ
+third_term s = s ∷ triple s ∷ xtime s ∷ s ∷ []
 
 -- one column of MixColumns (5.1.3)
 abbrev pub mix : ℕ → ℕ → ℕ → ℕ → List ℕ

@@ -9,6 +9,7 @@ use Rattle.cipher.specs.Cipher.{Lawful}
 use Rattle.cipher.specs.Schemes.{mode_lawful}
 use Rattle.cipher.specs.Words.{length_xors}
 
+-- a block of data and a counter block have 16 bytes
 pub length_block_at : (xs : List ℕ) (i : ℕ) → length (block_at xs i) ≡ 16
 length_block_at xs i = simp (length-append, length-replicate, length-take) (omega arith)
 
@@ -16,6 +17,7 @@ pub length_counter : (iv : List ℕ) (n : ℕ) → length iv ≡ 16 → length (
 length_counter iv n h = simp (length-append, length-take) (omega arith)
 
 module _ (E : List ℕ → List ℕ) (size : (b : List ℕ) → length b ≡ 16 → length (E b) ≡ 16) where
+  -- over a block cipher that gives 16 bytes, the CBC-MAC after any number of blocks and the tag have 16 bytes
   length_chain : (b0 c : List ℕ) (n : ℕ) → length b0 ≡ 16 → length (chain (λ x b. E (xors x b)) (E b0) c n) ≡ 16
   length_chain b0 c zero h = size b0 h
   length_chain b0 c (suc n) h =
@@ -29,6 +31,7 @@ module _ (E : List ℕ → List ℕ) (size : (b : List ℕ) → length b ≡ 16 
       let e = E (counter iv 0) in
       omega (arith, length_xors m e, length_chain (first_block iv (length c)) c (blocks (length c)) f, size (counter iv 0) (length_counter iv 0 h))
 
+-- CCM over a block cipher that gives 16 bytes is a lawful packet cipher
 pub ccm_lawful : (block : List ℕ → List ℕ → List ℕ) → ((k b : List ℕ) → length k ≡ 16 → length b ≡ 16 → length (block k b) ≡ 16) → Lawful (ccm block)
 ccm_lawful block size =
     mode_lawful ccm_fixed (λ k iv. ccm_stream (block k) iv) (λ k iv. ccm_tag (block k) iv) refl (1 ∷ replicate 15 0) refl refl

@@ -3,6 +3,7 @@ use Rattle.std.specs.Prelude.{◌≡◌, ℕ, ◌+◌, ◌-◌, ◌<◌, ◌≤�
 use Rattle.fault.specs.declared.Fault.{Fault}
 use Rattle.fault.specs.declared.Fault.TheVariants.{BadIv, NotOpened}
 
+-- a packet cipher: which IVs are well formed, what sealing gives, what opening gives
 pub record Cipher : Type 0 where
   -- which IVs are well formed
   pub well_formed : List ℕ → Bool
@@ -13,11 +14,11 @@ pub record Cipher : Type 0 where
   -- the contents that a key, an IV and a body give, if any
   pub opened : List ℕ → List ℕ → List ℕ → Option (List ℕ)
 
--- The laws are asked of keys and IVs of 16 bytes, of IVs that are well formed ..
+-- a key of 16 bytes and a well-formed IV of 16: the laws are asked of these
 abbrev pub Usable : Cipher → List ℕ → List ℕ → Type 0
 Usable C k iv = (length k ≡ 16) × (length iv ≡ 16) × (C.well_formed iv ≡ true)
 
--- .. and of contents of 0 to 266 bytes.
+-- The laws of a packet cipher, for usable keys and IVs and contents of 0 to 266 bytes.
 pub record Lawful (C : Cipher) : Type 0 where
   -- some IV is well formed
   pub some_iv : (iv : List ℕ) × (length iv ≡ 16) × (C.well_formed iv ≡ true)

@@ -16,7 +16,7 @@ no_columns = record { a = 0; b = 0; c = 0; d = 0 }
 abbrev pub Schedule : List ℕ → List Columns → ℕ → Type 0
 Schedule key ks n = (i : ℕ) → i < n → flat (slice_index_or ks i no_columns) ≡ round_key key i
 
--- each column of t is made of the bytes that ShiftRows brings there
+-- each column of t is made, by `makes`, of the bytes of s that ShiftRows brings there
 abbrev pub Shifted : (ℕ → ℕ → ℕ → ℕ → ℕ → Type 0) → Columns → Columns → Type 0
 Shifted makes s t =
     let a = word_bytes s.a in

@@ -1,4 +1,4 @@
--- The field of GCM, after SP 800-38D, section 6: a block is a number whose top bit is the block's first bit.
+-- The field of GCM, and GHASH over it (SP 800-38D, section 6): a block is a number whose top bit is the block's first bit.
 use Rattle.std.specs.Prelude.{ℕ, zero, suc, ◌+◌, ◌-◌, ◌*◌, ◌/◌, ◌%◌, ◌^◌, cond, List, [], ◌∷◌, length, ◌==◌, bit_xor, slice_index}
 use Rattle.cipher.specs.Blocks.{blocks, chain}
 
@@ -19,13 +19,13 @@ block_bytes n =
     (n / 2 ^ 24 % 256) ∷ (n / 2 ^ 16 % 256) ∷ (n / 2 ^ 8 % 256) ∷ (n % 256) ∷ []
 
 -- the product with x: a shift by one bit, and R added where a 1 falls out (6.3)
-abbrev pub halved : ℕ → ℕ
-halved v = bit_xor (v / 2) (v % 2 * 0xe1000000000000000000000000000000)
+abbrev pub times_x : ℕ → ℕ
+times_x v = bit_xor (v / 2) (v % 2 * 0xe1000000000000000000000000000000)
 
 -- V after i steps of the multiplication with y (algorithm 1)
 unfoldable pub v_after : ℕ → ℕ → ℕ
 v_after y zero = y
-v_after y (suc i) = halved (v_after y i)
+v_after y (suc i) = times_x (v_after y i)
 
 -- Z after i steps of the multiplication of x and y (algorithm 1)
 unfoldable pub z_after : ℕ → ℕ → ℕ → ℕ

@@ -1,3 +1,4 @@
+-- AES-128, CCM and GCM by their standards, what a packet cipher is, its laws, and that both modes keep them.
 pub mod Bytes
 pub mod Field
 pub mod Aes

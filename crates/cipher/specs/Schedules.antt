@@ -1,10 +1,11 @@
--- The round keys and the states, one after another.
+-- Lemmas on the round keys and the states, one after another.
 use Rattle.std.specs.Prelude.{◌≡◌, ℕ, zero, suc, ◌+◌, List, map, length, refl}
 use Rattle.std.proofs.Common.{◌∙◌, add-one, arith, length-append, length-take, length-drop}
 use Rattle.cipher.specs.Bytes.{xors}
 use Rattle.cipher.specs.Words.{length_xors}
 use Rattle.cipher.specs.Aes.{round_key, next_key, rcon, state, round, aes, shift_rows, sub}
 
+-- the first round key and the next one, the first state and the next one
 pub round_key_none : (key : List ℕ) → round_key key 0 ≡ key
 unfolding round_key
 round_key_none key = refl
@@ -21,6 +22,7 @@ pub state_more : (key b : List ℕ) (i : ℕ) → state key b (i + 1) ≡ round 
 unfolding state
 state_more key b i = rw add-one
 
+-- with a key of 16 bytes, each round key and the encrypted block have 16 bytes
 pub length_next_key : (r : ℕ) (k : List ℕ) → length k ≡ 16 → length (next_key r k) ≡ 16
 length_next_key r k h = simp (length-append, length_xors, length-take, length-drop) (omega arith)
 

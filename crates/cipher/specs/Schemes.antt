@@ -7,6 +7,7 @@ use Rattle.std.proofs.lemmas.Bool.{and_parts, and_from, leb-true, le-leb, ltb-tr
 use Rattle.cipher.specs.Cipher.{Lawful}
 use Rattle.cipher.specs.Sealing.{xor_from, same, sealed, contents, body_sized, opened, Fixed, has_fixed, first_unfixed, mode}
 
+-- a key stream added twice changes nothing, and added once it keeps the length
 xor_twice : (x k : ℕ) → bit_xor (bit_xor x k) k ≡ x
 xor_twice x k = xor_assoc x k k ∙ ap (bit_xor x) (xor_self k) ∙ xor_zero_r x
 
@@ -18,6 +19,7 @@ pub length_xor_from : (s : ℕ → ℕ) (i : ℕ) (xs : List ℕ) → length (xo
 length_xor_from s i [] = refl
 length_xor_from s i (x ∷ xs) = ap suc (length_xor_from s (i + 1) xs)
 
+-- a list is the same as itself, and lists that are the same are equal
 pub same_self : (xs : List ℕ) → same xs xs ≡ true
 same_self [] = refl
 same_self (x ∷ xs) = rw (eq-eqb x x refl) (same_self xs)
@@ -33,6 +35,7 @@ eq_from_same (x ∷ xs) [] h = let z : x ∷ xs ≡ [] = cc in z
 eq_from_same (x ∷ xs) (y ∷ ys) h =
     cons_same (x == y) x y xs ys (eqb-true x y) (λ e. eq_from_same xs ys e) h
 
+-- if a test lets a value through, it holds
 passed : (q : Bool) (c k : List ℕ) → cond q (Some k) None ≡ Some c → (q ≡ true) × (k ≡ c)
 passed true c k h = (refl, cc)
 passed false c k h = (cc, cc)
@@ -45,6 +48,7 @@ pub length_contents : (s : ℕ → ℕ) (b : List ℕ) → length (contents s b)
 length_contents s b = length_xor_from s 0 (take (length b - 16) b) ∙ length-take (length b - 16) b ∙ omega arith
 
 module _ (s : ℕ → ℕ) (tag : List ℕ → List ℕ) where
+  -- what a body opens to seals to it, a body is 16 bytes longer than its contents, and what contents seal to opens to them
   sound : (b c : List ℕ) → opened s tag b ≡ Some c → (sealed s tag c ≡ b) × (length c ≤ 266)
   sound b c h =
       let p = passed (body_sized b && same (tag (contents s b)) (drop (length b - 16) b)) c (contents s b) h in
@@ -70,21 +74,20 @@ module _ (s : ℕ → ℕ) (tag : List ℕ → List ℕ) where
       rw (l, d, f, same_self (tag c))
 
   -- what opening says, by its tests
-  pub opened_unsized : (b : List ℕ) → body_sized b ≡ false → opened s tag b ≡ None
-  opened_unsized b h = rw h
-
   pub opened_by : (b : List ℕ) (t : Bool) → body_sized b ≡ true → same (tag (contents s b)) (drop (length b - 16) b) ≡ t
       → opened s tag b ≡ cond t (Some (contents s b)) None
   opened_by b t h e = rw (h, e)
 
+-- two values are equal if their Somes are
 some_same : (c d : List ℕ) → ◌≡◌ {A = Option (List ℕ)} (Some c) (Some d) → c ≡ d
 some_same c d e = cc
 
--- the places of an IV's fixed bytes
+-- whether the places of an IV's fixed bytes are all below 16
 abbrev places_within : Fixed → Bool
 places_within [] = true
 places_within ((i, b) ∷ rest) = nat_lt i 16 && places_within rest
 
+-- if they are, the place of the first fixed byte that an IV does not have is below 16
 unfixed_within : (fixed : Fixed) (iv : List ℕ) → places_within fixed ≡ true → first_unfixed fixed iv < 16
 unfixed_within [] iv h = omega arith
 unfixed_within ((i, b) ∷ rest) iv h =

@@ -18,7 +18,7 @@ same (x ∷ xs) (y ∷ ys) = cond (x == y) (same xs ys) false
 abbrev pub sealed : (ℕ → ℕ) → (List ℕ → List ℕ) → List ℕ → List ℕ
 sealed s tag c = xor_from s 0 c ++ tag c
 
--- what a body without its last 16 bytes stands for
+-- the contents of a body: all but its last 16 bytes, with the key stream taken off
 abbrev pub contents : (ℕ → ℕ) → List ℕ → List ℕ
 contents s b = xor_from s 0 (take (length b - 16) b)
 
@@ -26,7 +26,7 @@ contents s b = xor_from s 0 (take (length b - 16) b)
 abbrev pub body_sized : List ℕ → Bool
 body_sized b = nat_le 16 (length b) && nat_le (length b) 282
 
--- the contents of a body of that size whose tag is theirs
+-- the contents of a body, if it has that size and its last 16 bytes are their tag
 abbrev pub opened : (ℕ → ℕ) → (List ℕ → List ℕ) → List ℕ → Option (List ℕ)
 opened s tag b = cond (body_sized b && same (tag (contents s b)) (drop (length b - 16) b)) (Some (contents s b)) None
 
@@ -34,12 +34,12 @@ opened s tag b = cond (body_sized b && same (tag (contents s b)) (drop (length b
 abbrev pub Fixed : Type 0
 Fixed = List (ℕ × ℕ)
 
--- whether an IV has them
+-- whether an IV has its fixed bytes
 abbrev pub has_fixed : Fixed → List ℕ → Bool
 has_fixed [] iv = true
 has_fixed ((i, b) ∷ rest) iv = slice_index iv i == b && has_fixed rest iv
 
--- the place of the first that it does not have
+-- the place of the first fixed byte that an IV does not have; 0 where it has all
 abbrev pub first_unfixed : Fixed → List ℕ → ℕ
 first_unfixed [] iv = 0
 first_unfixed ((i, b) ∷ rest) iv = cond (slice_index iv i == b) (first_unfixed rest iv) i

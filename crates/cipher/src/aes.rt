@@ -28,7 +28,7 @@ fn expanded(key: &[u8; 16]) -> [Columns; 11]
 {
     let mut k = Columns::from(key);
     let mut keys = [k; 11];
-    // By an index into one side: tried with `iter_mut`, zipped, where a loop's invariant can't name what was written.
+    // By index: with iter_mut a loop's invariant can't name what was written.
     for (i, constant) in RCON.iter().enumerate() {
         k = next_round_key(k, *constant);
         keys[i + 1] = k;
@@ -40,8 +40,8 @@ impl Aes128 {
     fn encrypted(&self, block: &[u8; 16]) -> [u8; 16]
         ensures { result ≡ aes self.now.key block.now }
     {
-        // The rounds one by one: a loop over them, tried, is half as slow again, since the compiler keeps the columns that go from turn to
-        // turn in one vector register.
+        // The rounds one by one: with a loop over them, tried, opening a packet takes a quarter longer, since the compiler keeps the columns
+        // that go from round to round in one vector register.
         let k = &self.rounds;
         let s = Columns::from(block) ^ k[0];
         let s = step(step(step(s, k[1]), k[2]), k[3]);

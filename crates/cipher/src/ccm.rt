@@ -65,7 +65,7 @@ impl<B: BlockCipher> Mode for Ccm<B> {
 
     ghost tag = { ccm_tag };
 
-    // Of the packet cipher `ccm B.block`, which these three make.
+    // The laws of the packet cipher that the three above make.
     ghost lawful = { ccm_lawful B.block B.size };
 
     fn fixed() -> &'static [(u8, u8)] {

@@ -51,7 +51,7 @@ impl<B: BlockCipher> Mode for Gcm<B> {
 
     ghost tag = { gcm_tag };
 
-    // Of the packet cipher `gcm B.block`, which these three make.
+    // The laws of the packet cipher that the three above make.
     ghost lawful = { gcm_lawful B.block B.size };
 
     fn fixed() -> &'static [(u8, u8)] {

@@ -10,8 +10,8 @@ use crate::packet::PacketCipher;
 use crate::session::Session;
 use fault::Fault;
 
-// The fixed bytes of an IV, a key stream and a tag, over a block cipher. That an IV is well formed, and contents short, stay
-// premises: in types of their own they would ask of the callers of a packet cipher that they make some.
+// The fixed bytes of an IV, a key stream and a tag, over a block cipher. That an IV is well formed and contents are short stay premises: types
+// for them would have to be built by every caller.
 pub(crate) trait Mode {
     type Block: BlockCipher;
 
@@ -60,7 +60,7 @@ pub(crate) fn check_fixed(fixed: &[(u8, u8)], iv: &[u8; 16]) -> Result<(), Fault
     Ok(())
 }
 
-// A body of 16 to 282 bytes as the contents under the key stream, and the tag.
+// Splits a body of 16 to 282 bytes into ciphertext and tag.
 fn parted(body: &[u8]) -> Option<(&[u8], &[u8; 16])>
     ensures { MatchOption result (body_sized body.now ≡ false) (λ p. (body_sized body.now ≡ true) × (p.0.now ≡ take (length body.now - 16) body.now) × (p.1.now ≡ drop (length body.now - 16) body.now)) }
 {

@@ -20,7 +20,7 @@ pub trait PacketCipher {
         ensures { out.new ≡ cipher.seal key.now iv.now (take (length out.old - 16) out.old) };
 
     // Opens a body into the first 266 bytes of `work`, and says how many bytes its contents have: a count, since they lie in the
-    // caller's own buffer, whose rest is wiped.
+    // caller's own buffer. The others of the 266 are wiped.
     fn open(key: &[u8; 16], iv: &[u8; 16], body: &[u8], work: &mut [u8]) -> Result<usize, Fault>
         requires formed { cipher.well_formed iv.now ≡ true }
         requires room { 266 ≤ length work.old }

@@ -20,6 +20,7 @@ impl<B: BlockCipher> Model for Session<B> {
     ghost view = { λ s. record { key = B.keyed s.cipher; iv = s.iv } };
 }
 
+// Writes the last four bytes at once: writing two made opening a packet 3 % slower.
 pub(crate) fn counter_block(iv: &[u8; 16], n: u16) -> [u8; 16]
     ensures { result ≡ counter iv.now n }
 {
@@ -42,9 +43,8 @@ pub(crate) fn block_of(bytes: &[u8]) -> [u8; 16]
     b
 }
 
-// Adds the bytes of `pad` to those of `part`, by exclusive or. By an index into `pad`: tried with `zip`, where a loop's invariant can't name
-// what was written, and with `for_each` behind it, of which the checker says that it 'says nothing yet of how it leaves a value that the
-// iterator borrowed as `&mut`'.
+// Adds the bytes of `pad` to those of `part`, by exclusive or. By index: with zip a loop's invariant can't name what was written, and of
+// for_each the checker says that it 'says nothing yet of how it leaves a value that the iterator borrowed as `&mut`'.
 pub(crate) fn add_into(part: &mut [u8], pad: &[u8; 16])
     requires { length part.old ≤ 16 }
     ensures { part.new ≡ xors part.old pad.now }
@@ -91,7 +91,7 @@ impl<B: BlockCipher> Session<B> {
         ensures { «data».new ≡ xor_from (stream (λ n. B.block self.now.key (counter self.now.iv n)) first) 0 «data».old }
     {
         let size = data.len();
-        // By index: tried with `chunks_mut`, where a loop's invariant can't name what was written.
+        // By index: with chunks_mut a loop's invariant can't name what was written.
         for i in 0..size.div_ceil(16) {
             let from = 16 * i;
             let to = size.min(from + 16);

@@ -48,7 +48,7 @@ impl From<&[u8; 16]> for Columns {
 impl From<Columns> for [u8; 16] {
     ghost from_gives = { λ s bytes. bytes ≡ flat s };
 
-    // A column at a time: a list of single bytes, tried, is written byte by byte, and read again only when all are there.
+    // A column at a time: an array of single bytes is stored byte by byte, and the next load waits for all of them.
     fn from(s: Columns) -> Self {
         let mut bytes = [0; 16];
         bytes[..4].copy_from_slice(&s.a.to_be_bytes());

@@ -5,13 +5,13 @@ ghost use Rattle.cipher.specs.Aes.{sub, mix, round, last_round, turn, next_key};
 ghost use Rattle.cipher.specs.Columns.{flat, Shifted};
 
 use crate::aes::columns::Columns;
-use crate::aes::table::{substituted, term};
+use crate::aes::table::{substituted, term, third_term};
 
 // A column of MixColumns, of its bytes before SubBytes.
 fn mixed(a: u8, b: u8, c: u8, d: u8) -> u32
     ensures { word_bytes result ≡ mix (sub a) (sub b) (sub c) (sub d) }
 {
-    term(a) ^ term(b).rotate_right(8) ^ term(c).rotate_right(16) ^ term(d).rotate_right(24)
+    (term(a) ^ third_term(c)) ^ (term(b) ^ third_term(d)).rotate_right(8)
 }
 
 // A column of the last round, which has no MixColumns.

@@ -2,19 +2,19 @@
 ghost use Rattle.std.specs.Prelude.{◌≡◌, ℕ, ◌*◌, ◌^◌, ◌<◌, length, ◌==◌, slice_index};
 ghost use Rattle.cipher.specs.Ghash as spec;
 ghost use Rattle.cipher.specs.Ghash.{v_after};
-ghost use Rattle.cipher.specs.Horner.{added, horner, fourth, eighth};
+ghost use Rattle.cipher.specs.Horner.{added, horner, times_x4, times_x8};
 
 use crate::session::block_of;
 use std::array;
 
 // One shift.
 fn shifted(v: u128) -> u128
-    ensures { result ≡ spec.halved v }
+    ensures { result ≡ spec.times_x v }
 {
     (v / 2) ^ (v % 2 * 0xe1000000000000000000000000000000)
 }
 
-// What eight shifts make of the byte that falls out; in closed form, so that no turn waits for a table.
+// What eight shifts make of the byte that falls out; in closed form, so that no iteration waits for a table.
 fn reduced(b: u8) -> u128
     ensures { result ≡ v_after b 8 }
 {
@@ -24,19 +24,19 @@ fn reduced(b: u8) -> u128
 
 // Four shifts. The four bits fall out as the upper half of a byte, whose first four shifts drop nothing.
 fn shifted4(v: u128) -> u128
-    ensures { result ≡ fourth v }
+    ensures { result ≡ times_x4 v }
 {
     (v / 16) ^ reduced((v % 16 * 16) as u8)
 }
 
 // Eight shifts.
 fn shifted8(v: u128) -> u128
-    ensures { result ≡ eighth v }
+    ensures { result ≡ times_x8 v }
 {
     (v / 256) ^ reduced((v % 256) as u8)
 }
 
-// A field element, its products with each number of four bits, and four shifts of each: so a turn of `times` waits only
+// A field element, its products with each number of four bits, and four shifts of each: so an iteration of `times` waits only
 // for the eight shifts.
 #[derive(Drop)]
 pub(crate) struct Factor {
@@ -44,7 +44,7 @@ pub(crate) struct Factor {
     high: [u128; 16],
     low: [u128; 16],
     ghost high_made: { (t : ℕ) → t < 16 → slice_index high t ≡ horner t value 4 },
-    ghost low_made: { (t : ℕ) → t < 16 → slice_index low t ≡ fourth (horner t value 4) },
+    ghost low_made: { (t : ℕ) → t < 16 → slice_index low t ≡ times_x4 (horner t value 4) },
 }
 
 fn added_if(bit: u8, z: u128, v: u128) -> u128
