@@ -72,15 +72,6 @@ just_51 n =
           | inr t ↦ and_right (leb 51 n) _ t
         ]
 
--- the judging of any board is that of its session and held record
-by_fields : (s : State) (p : Packet) → judge_fields s p ≡ judge_by s.session s.contents.held p
-unfolding judge_fields
-by_fields s p = refl
-
-by_key_fields : (s : State) (p : KeyPacket) → judge_key_fields s p ≡ judge_key_by s.contents.held p
-unfolding judge_key_fields
-by_key_fields s p = refl
-
 -- a packet on a board that is not dark: held is the record that was read
 module _ (C : Cipher) (w : Working) (m : Meaning) (n : Session) (at : works m n ≡ w) (held : Held) (same : held ≡ m.contents.held) (core : List ℕ) where
   abbrev s : State
@@ -89,6 +80,7 @@ module _ (C : Cipher) (w : Working) (m : Meaning) (n : Session) (at : works m n 
   abbrev data_checked : Held → Result Packet Fault
   data_checked h = all_checked C fields (judge_by n h) (data_key h) core (sized 44 299 core)
 
+  -- judging by the session and the held record is the judging of the board
   data_is : data_checked held ≡ judge_data C s core
   unfolding judge_data judge_fields
   data_is = ap data_checked same ∙ ap (λ x. judge_data C (lit x) core) at
@@ -99,6 +91,7 @@ module _ (C : Cipher) (w : Working) (m : Meaning) (n : Session) (at : works m n 
   abbrev key_checked : Held → Result KeyPacket Fault
   key_checked h = all_checked C key_fields (judge_key_by h) (kek h) core (sized 51 51 core)
 
+  -- a key packet's judging by the held record likewise
   key_is : key_checked held ≡ judge_key C s core
   unfolding judge_key judge_key_fields
   key_is =

@@ -8,7 +8,7 @@ use Rattle.cipher.specs.Cipher.{Cipher, Lawful, Usable, iv_checked, opening, yie
 use Rattle.rules.specs.Packets.{iv_of, body_of}
 use Rattle.rules.specs.Board.{KeyPacket, Packet, fields, key_fields, on_opened}
 use Rattle.board.specs.declared.data.Opened.{Opened}
-use Rattle.board.specs.Opening.{lying}
+use Rattle.board.specs.Opening.{with_work}
 use Rattle.board.specs.States.{packet_in, packet_with}
 
 -- an IV that passes its check is well formed
@@ -30,11 +30,11 @@ opens_to C L k core c l i h e =
     omega (arith, a, length-drop 17 core)
 
 -- the contents stand in front
-pub front : (o : Option (List ℕ)) (r : Result ℕ Fault) (rest after : List ℕ) → r ≡ opening o → after ≡ yielded o ++ rest → lying take after r ≡ on_opened (λ c. Ok c) o
+pub front : (o : Option (List ℕ)) (r : Result ℕ Fault) (rest after : List ℕ) → r ≡ opening o → after ≡ yielded o ++ rest → with_work take after r ≡ on_opened (λ c. Ok c) o
 unfolding on_opened
-front None r rest after e h = ap (lying take after) e
+front None r rest after e h = ap (with_work take after) e
 front (Some c) r rest after e h =
-    ap (lying take after) e
+    ap (with_work take after) e
     ∙ ap Ok (ap (take (length c)) (h ∙ append_assoc c (replicate (266 - length c) 0) rest) ∙ take_at c (replicate (266 - length c) 0 ++ rest) (length c) refl)
 
 -- how many bytes they have

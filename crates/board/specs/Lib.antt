@@ -1,3 +1,4 @@
+-- What a board, its receiver and its packets mean in the words of the rules, and what its calls leave, answer and send.
 pub mod Progress
 pub mod Reading
 pub mod Wiped

@@ -10,7 +10,7 @@ use Rattle.rules.specs.Board.{on_opened}
 abbrev pub opened_by : {A : Type 0} → Cipher → (List ℕ → A) → List ℕ → List ℕ → Result A Fault
 opened_by C f key core = then (iv_checked C (iv_of core)) (on_opened (λ c. Ok (f c)) (C.opened key (iv_of core) (body_of core)))
 
--- an answer, with what lies in the work buffer
-abbrev pub lying : {X Y : Type 0} → (X → List ℕ → Y) → List ℕ → Result X Fault → Result Y Fault
-lying f work (Ok x) = Ok (f x work)
-lying f work (Err e) = Err e
+-- an answer whose value is completed by what lies in the work buffer
+abbrev pub with_work : {X Y : Type 0} → (X → List ℕ → Y) → List ℕ → Result X Fault → Result Y Fault
+with_work f work (Ok x) = Ok (f x work)
+with_work f work (Err e) = Err e

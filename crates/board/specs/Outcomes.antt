@@ -17,7 +17,8 @@ board_with m r n d = record { contents = m.contents; supply = m.supply; receiver
 abbrev pub lit_board : Meaning → Session → State
 lit_board m n = board_with m idle n false
 
--- what a refusal sends, by its number: nothing at 3, message 0x07 at 9, the number itself from 81 on, message 0x05 at any other
+-- what a refusal of a byte that was read sends, by its number (1 and 2 come before that and send nothing): nothing at 3, message 0x07 at 9,
+-- the number itself from 81 on, message 0x05 at any other
 abbrev pub number_sends : ℕ → List ℕ
 number_sends n = cond (n == 3) [] (cond (n == 9) (message 7) (cond (nat_le 81 n) (n ∷ []) (message 5)))
 
@@ -57,10 +58,10 @@ works m n = record { memory = m; session = n }
 abbrev pub lit : Working → State
 lit w = lit_board w.memory w.session
 
--- what a call leaves of an idle board: an answer of 3 made it dark
-abbrev pub left_dark : {X : Type 0} → Working → Result X Fault → State
-left_dark w r = board_with w.memory idle w.session (went_dark r)
+-- the board that a call leaves, with an idle receiver: dark only where the answer is 3
+abbrev pub left_board : {X : Type 0} → Working → Result X Fault → State
+left_board w r = board_with w.memory idle w.session (went_dark r)
 
 -- the outcome of a packet, from what it leaves, and its answer
 abbrev pub packet_outcome : Working → Result (Unit {0}) Fault → Outcome
-packet_outcome w r = record { state = left_dark w r; answer = packet_answer r }
+packet_outcome w r = record { state = left_board w r; answer = packet_answer r }

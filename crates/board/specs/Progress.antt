@@ -3,7 +3,8 @@ use Rattle.std.specs.Prelude.{ℕ, Bool, true, ◌&&◌, nat_le, nat_lt}
 use Rattle.board.specs.declared.receiver.Progress.{Progress}
 use Rattle.board.specs.declared.receiver.Progress.TheVariants.{Idle, LengthLow, LengthHigh, Body, CheckLow, CheckHigh}
 
--- with so many bytes of its core command: a core command has 1 to 299 bytes, and fewer than its length have been read in a body
+-- whether a receiver can have come this far with k bytes of a core command: a core command has 1 to 299 bytes, and fewer than its length
+-- have been read in a body
 abbrev pub sound : Progress → ℕ → Bool
 sound Idle k = true
 sound LengthLow k = true

@@ -22,7 +22,7 @@ receiver_at (CheckHigh low) core = check_high core low
 abbrev pub receiver_of : Receiver → rules.Receiver
 receiver_of r = receiver_at r.progress r.core
 
--- the receiver behind a byte
+-- the receiver after a byte
 abbrev pub left_by : rules.Read → rules.Receiver
 left_by (waits r) = r
 left_by (bad f) = idle

@@ -1,7 +1,7 @@
 -- What is sent, and what a core command that was obeyed comes to.
 use Rattle.std.specs.Prelude.{ℕ, List, [], ◌∷◌, Ok, Err, Result}
 use Rattle.fault.specs.declared.Fault.{Fault}
-use Rattle.board.specs.Outcomes.{Working, left_dark, refused_sends, went_dark}
+use Rattle.board.specs.Outcomes.{Working, left_board, refused_sends, went_dark}
 use Rattle.rules.specs.Receiver.{read}
 use Rattle.rules.specs.Commands.{message, version_answer}
 use Rattle.rules.specs.Board.{Answer, Outcome, State, enact, heard_read, refuses, respond, sends}
@@ -25,7 +25,7 @@ replied (Err f) = refuses f (refused_sends f)
 
 -- the outcome of a core command, from what it leaves, and its answer
 abbrev pub obeyed : Working → Result Reply Fault → Outcome
-obeyed w r = record { state = left_dark w r; answer = replied r }
+obeyed w r = record { state = left_board w r; answer = replied r }
 
 -- an outcome, from the board that is left, which an answer of 3 makes dark, and the answer
 abbrev pub outcome_of : State → Result Reply Fault → Outcome

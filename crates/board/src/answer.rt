@@ -7,9 +7,7 @@ use std::marker::Model;
 
 mod parts;
 
-// What a byte call answers: the refusal, if it refuses, and how many bytes of the reply buffer it sends. A count, at
-// most 11: the bytes lie in the caller's own buffer. No Result, since a refusal sends bytes too; and that there are at most 11 stays a clause of
-// the calls, where a type would ask it of whoever makes one.
+// What a byte call answers: the refusal, if any, and how many bytes (at most 11) it left in the reply buffer. No Result: a refusal sends bytes too.
 #[derive(Clone, Copy)]
 pub struct ByteAnswer {
     pub refusal: Option<Fault>,

@@ -15,7 +15,7 @@ use std::marker::{Model, PhantomData};
 pub struct Board<M: Memory, C: PacketCipher> {
     pub(crate) device: Device<M>,
     pub(crate) receiver: Receiver,
-    // A flag, as in the rules: memory and receiver stand whatever it is.
+    // Whether the power is gone; memory and receiver keep their values.
     pub(crate) dark: bool,
     pub(crate) cipher: PhantomData<C>,
 }

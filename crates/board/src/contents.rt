@@ -22,7 +22,7 @@ impl<'a> Model for Contents<'a> {
     ghost invariant = { λ o. (10 < length o.bytes.now) × (length o.bytes.now ≤ 266) };
 }
 
-// A part of a buffer with its place in it, which outlives the borrow.
+// A part of a buffer and its offset, which can be kept when the borrow has ended.
 #[derive(Clone, Copy)]
 pub(crate) struct Part<'a> {
     pub(crate) bytes: &'a [u8],

@@ -12,6 +12,7 @@ use memory::{Held, LentImage, Supply};
 
 impl<'a, C: PacketCipher> Board<LentImage<'a>, C> {
     // A fresh board on any image, with any two keys, and a supply without end; refuses an image that is not as long as the map.
+    #[tactic(auto, unfolding(rules::specs::Board::fresh))]
     pub fn fresh(
         image: &'a mut [u8],
         key: [u8; 16],

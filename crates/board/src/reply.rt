@@ -28,7 +28,7 @@ pub(crate) enum Reply {
 }
 
 impl Reply {
-    // What a refusal shows: a name says of which call, which a From would not.
+    // What a refused byte shows. No `From`, since a refused boot question shows nothing.
     pub(crate) fn to_refusal(fault: &Fault) -> Reply
         ensures { sent_of result ≡ refused_sends fault.now }
     {

@@ -14,7 +14,7 @@ use rules::Event;
 use std::alloc::{AllocError, Global};
 
 impl<M: Memory, C: PacketCipher> Board<M, C> {
-    // One call, with buffers of the lengths that the event names, or as long as any call needs.
+    // One call, with buffers of the lengths that the event names, cut to what any call needs.
     fn call(&mut self, event: Event, work: &mut [u8; WORK], reply: &mut [u8; REPLY]) -> Answer
         ensures { call_of self.new result ≡ step C.cipher self.old event }
     {

@@ -2,7 +2,7 @@
 ghost use Rattle.std.specs.Prelude.{◌≡◌, ◌+◌, ◌≤◌, length, take, IfOk};
 ghost use Rattle.rules.specs.Packets.{body_of, iv_of};
 ghost use Rattle.board.specs.Judging.{sized};
-ghost use Rattle.board.specs.Opening.{lying, opened_by};
+ghost use Rattle.board.specs.Opening.{with_work, opened_by};
 ghost use Rattle.board.specs.Outcomes.{done};
 
 use crate::core_command::CoreCommand;
@@ -10,7 +10,7 @@ use crate::work::WORK;
 use cipher::PacketCipher;
 use fault::Fault;
 
-// A packet of a length that its kind has: a plain number, as all states of a packet, so that clauses say of which core command.
+// A packet whose length its kind allows; only the length is kept.
 #[derive(Drop)]
 pub(crate) struct Sealed<const LEAST: usize, const MOST: usize> {
     length: usize,
@@ -53,7 +53,7 @@ impl<const LEAST: usize, const MOST: usize> Sealed<LEAST, MOST> {
     ) -> Result<usize, Fault>
         requires least { 17 ≤ LEAST }
         requires core { self.length ≡ length core.buffer.now }
-        ensures value { lying take work.new result ≡ opened_by C.cipher (λ c. c) key.now core.entry.buffer.now }
+        ensures value { with_work take work.new result ≡ opened_by C.cipher (λ c. c) key.now core.entry.buffer.now }
         ensures long { IfOk result (λ n. n + 33 ≡ self.entry.length) }
     {
         let (iv, body) = parts(core);

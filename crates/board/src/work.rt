@@ -1,4 +1,4 @@
-// A guard over the work buffer: when it ends, on whatever way, the buffer is wiped.
+// A guard over the work buffer: wipes it when it goes out of scope, on every way out.
 ghost use Rattle.std.specs.Prelude.{◌≡◌};
 ghost use Rattle.board.specs.Wiped.{zeros};
 

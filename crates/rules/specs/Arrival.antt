@@ -12,7 +12,7 @@ use Rattle.rules.specs.Promises.{Given, start}
 abbrev pub InByte : ℕ → Type 0
 InByte b = b < 0x100
 
--- what a call gives to the board is a byte, where it is one at all
+-- if an event is a byte call, its number is below 0x100
 abbrev pub GivesByte : Event → Type 0
 GivesByte (Byte b reply work) = InByte b
 GivesByte Silence = Unit {0}
@@ -46,7 +46,7 @@ unfoldable pub bytes_read : List ℕ → List Call → List ℕ
 bytes_read bs [] = bs
 bytes_read bs (c ∷ cs) = bytes_read (read_on bs c.before.dark c.event) cs
 
--- Behind the calls x, the call c reads the last byte of the frame of a core command.
+-- After the calls x, the call c reads the last byte of the frame of a core command.
 pub record EndsFrame (x : List Call) (c : Call) (core : List ℕ) : Type 0 where
   pub byte : ℕ
   pub reply : ℕ

@@ -40,7 +40,7 @@ pub record State : Type 0 where
   pub session : Session
   pub dark : Bool
 
--- a board with two keys of version 0, which was never written to
+-- a fresh board: an image, two keys of version 0, no mark, supply without end, idle receiver, no session
 unfoldable pub fresh : List ℕ → List ℕ → List ℕ → State
 fresh image d k = record {
   contents = record {
@@ -85,7 +85,7 @@ pub data Heard : Type 0 where
   question : Heard
   power_up : Supply → Heard
 
--- a byte that is read
+-- what a call hears that reads a byte
 unfoldable pub heard_read : Read → Heard
 heard_read (waits r) = part r
 heard_read (bad f) = garbled f
@@ -145,12 +145,17 @@ may_follow (expects n m) h p = p.pn == n && (p.np == m && p.ver == h.version)
 abbrev pub in_order : State → Packet → Bool
 in_order s p = cond (p.pn == 1) (may_open s.contents.held p) (may_follow s.session s.contents.held p)
 
+-- the check of the numbers: neither is 0, and the packet's is at most the number of packets
+abbrev pub numbers_checked : Packet → Result (Unit {0}) Fault
+numbers_checked p = check (not (p.pn == 0) && (not (p.np == 0) && nat_le p.pn p.np)) (BadNumber p.pn)
+
+-- the check of a packet's turn: a first packet out of order may not open, any other one is out of turn
+abbrev pub turn_checked : State → Packet → Result (Unit {0}) Fault
+turn_checked s p = check (in_order s p) (cond (p.pn == 1) (MayNotOpen p.pn) (OutOfTurn p.pn))
+
 -- the checks of the fields of a data packet
 unfoldable pub judge_fields : State → Packet → Result Packet Fault
-judge_fields s p =
-    then (check (not (p.pn == 0) && (not (p.np == 0) && nat_le p.pn p.np)) (BadNumber p.pn))
-    (then (check (in_order s p) (cond (p.pn == 1) (MayNotOpen p.pn) (OutOfTurn p.pn)))
-    (then (range_checked p.address (length p.bytes)) (Ok p)))
+judge_fields s p = then (numbers_checked p) (then (turn_checked s p) (then (range_checked p.address (length p.bytes)) (Ok p)))
 
 -- the checks of the fields of a key packet
 unfoldable pub judge_key_fields : State → KeyPacket → Result KeyPacket Fault
@@ -186,16 +191,16 @@ pub data Deed : Type 0 where
   rekeys : KeyPacket → Deed
   powers : Supply → Deed
 
--- a packet is refused
+-- the deed of a refused packet: message 0x05
 abbrev pub no_packet : Fault → Deed
 no_packet f = turns idle (refuses f (message 5))
 
--- a data packet that is judged
+-- the deed of a data packet, by its judging
 unfoldable pub on_data : Result Packet Fault → Deed
 on_data (Err f) = no_packet f
 on_data (Ok p) = stores p
 
--- a key packet that is judged
+-- the deed of a key packet, by its judging
 unfoldable pub on_key : Result KeyPacket Fault → Deed
 on_key (Err f) = no_packet f
 on_key (Ok p) = rekeys p
@@ -251,7 +256,7 @@ closing_steps p = cond (p.pn == p.np) (set_version p.ver false ∷ []) []
 unfoldable pub data_steps : Packet → List Step
 data_steps p = opening_steps p ++ (store_up p.address p.bytes ++ closing_steps p)
 
--- the session behind a data packet: it is over, or expects the next number
+-- the session after a data packet: it is over, or expects the next number
 unfoldable pub session_after : Packet → Session
 session_after p = cond (p.pn == p.np) closed (expects (suc p.pn) p.np)
 
@@ -302,7 +307,7 @@ unfoldable pub history : Cipher → State → List Event → List Call
 history C s [] = []
 history C s (e ∷ es) = call C s e ∷ history C (step C s e).state es
 
--- the board behind a list of events
+-- the board after a list of events
 unfoldable pub run : Cipher → State → List Event → State
 run C s [] = s
 run C s (e ∷ es) = run C (step C s e).state es

@@ -50,7 +50,7 @@ pub record SevenAt (C : Cipher) (c : Contents) : Type 0 where
   pub holds : board.contents ≡ c
   pub arrival : SevenArrives C (call C board event)
 
--- The same of the fields alone, by computation: a board of version 7 with nothing in it, with or without the mark,
+-- by computation, on the fields alone: a board of version 7 with nothing in it
 abbrev pub version_seven : Bool → State
 version_seven m = record {
   contents = record { image = []; held = record { version = 7; unfinished = m; keys = [] } };
@@ -60,11 +60,11 @@ version_seven m = record {
   dark = false;
 }
 
--- the packet's fields,
+-- the packet's fields
 abbrev pub first_seven : Packet
 first_seven = record { ver = 7; pn = 1; np = 1; address = 0x4400; bytes = 0 ∷ [] }
 
--- and the refusal that they get.
+-- the refusal that they get, if any
 abbrev pub refused_seven : Bool → Option Fault
 refused_seven m = (enact (on_data (judge_fields (version_seven m) first_seven)) (version_seven m)).answer.refusal
 

@@ -101,7 +101,7 @@ OpensToBytes C c =
     → C.opened key (iv_of core) (body_of core) ≡ Some contents
     → Each InByte contents
 
--- The refusals of a byte call, and the bounds of their places. B stands for: contents are bytes.
+-- The refusals of a byte call, and the bounds of their places. B is the premise that opened contents are bytes.
 abbrev pub OfByte : Type 0 → ℕ → ℕ → ℕ → Fault → Type 0
 OfByte B b reply work ReplyShort = reply < 11
 OfByte B b reply work WorkShort = (11 ≤ reply) × (work < 266)
@@ -142,25 +142,25 @@ EachCallHasItsRefusals =
     → c.answer.refusal ≡ Some f
     → RefusalOf (OpensToBytes C c) c.event f
 
--- the board behind calls that began with a board
+-- the board after calls that began with a board
 abbrev pub board_behind : State → List Call → State
 board_behind s [] = s
 board_behind s (c ∷ cs) = board_behind c.after cs
 
--- a list of events, and another behind it
+-- a list of events, and another after it
 pub record Joined (C : Cipher) (s : State) (first second : List Event) : Type 0 where
   -- the history is that of the first, and then that of the second from the board that the first left
   pub histories : history C s (first ++ second) ≡ history C s first ++ history C (run C s first) second
-  -- that board is the one behind the last call of the first
+  -- that board is the one after the last call of the first
   pub left : run C s first ≡ board_behind s (history C s first)
-  -- the board behind both is the one that the second left
+  -- the board after both is the one that the second left
   pub boards : run C s (first ++ second) ≡ run C (run C s first) second
 
 -- A long run may be made in pieces.
 abbrev pub HistoriesJoin : Type 0
 HistoriesJoin = (C : Cipher) (s : State) (first second : List Event) → Joined C s first second
 
--- The packets of an update are one list, behind whichever call of a history it opened at.
+-- The packets of an update are one list, after whichever call of a history it opened at.
 abbrev pub PacketsAreOneList : Type 0
 PacketsAreOneList =
     (C : Cipher) (s : State) (events : List Event) (x behind : List Call) (c : Call)

@@ -1,3 +1,4 @@
+-- The board as a state machine, the three promises on whole runs, and laws, runs and examples that show what they say.
 pub mod Memory
 pub mod Packets
 pub mod Receiver

@@ -3,7 +3,7 @@ use Rattle.std.specs.Prelude.{◌≡◌, ℕ, ◌+◌, ◌<◌, ◌≤◌, Bool,
 use Rattle.memory.specs.declared.held.Held.{Held}
 use Rattle.memory.specs.declared.held.KeyRecord.{KeyRecord}
 use Rattle.memory.specs.Areas.{place, first_outside, map_size}
-use Rattle.memory.specs.Meaning.{Contents, put_at}
+use Rattle.memory.specs.Meaning.{Contents, put}
 
 -- what stands where there is no key
 abbrev pub no_key : KeyRecord
@@ -37,7 +37,7 @@ blank c = byte_at c 0xFFFE == 0xFF && byte_at c 0xFFFF == 0xFF
 -- An image with data laid over it, upward from an address.
 unfoldable pub lay : ℕ → List ℕ → List ℕ → List ℕ
 lay a [] i = i
-lay a (b ∷ bs) i = lay (a + 1) bs (put_at (place a) b i)
+lay a (b ∷ bs) i = lay (a + 1) bs (put a b i)
 
 -- Data laid over an image from an address on: each of its addresses holds its byte, and every other what it held.
 pub record Laid (a : ℕ) (bs i : List ℕ) : Type 0 where

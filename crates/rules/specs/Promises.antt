@@ -27,18 +27,18 @@ start g = fresh g.image g.data_key_bytes g.kek_bytes
 abbrev pub first_packet : {C : Cipher} {cs : List Call} → Latest C cs → Delivery
 first_packet u = record { at = u.at; packet = u.packet }
 
--- An update among the calls before a boot question r, behind which come the calls rest: ds are its packets behind the first.
+-- An update among the calls before a boot question r, after which come the calls rest: ds are its packets after the first.
 pub record Complete (C : Cipher) {mid : List Call} (u : Latest C mid) (r : Call) (rest : List Call) (ds : List Delivery) : Type 0 where
   -- at the question they are all there, and the update is whole
   pub all_there : Packets C u.behind ds
   pub whole_there : Whole C (first_packet u) u.behind ds
-  -- neither the question nor a call behind it brings one more, or takes that away
+  -- neither the question nor a call after it brings one more, or takes that away
   pub packets : Packets C (u.behind ++ r ∷ rest) ds
   pub whole : Whole C (first_packet u) (u.behind ++ r ∷ rest) ds
   -- the memory bytes at the question are what stood before the update with its data laid over
   pub laid : memory r.before ≡ laid_over (first_packet u ∷ ds) (memory u.at.before)
 
--- Between two boot questions q and r, both answered 'application', came the calls mid; behind r come the calls rest.
+-- Between two boot questions q and r, both answered 'application', came the calls mid; after r come the calls rest.
 pub record Updated (C : Cipher) (q : Call) (mid : List Call) (r : Call) (rest : List Call) : Type 0 where
   -- the firmware version rises exactly when an update opened
   pub rises : Opened C mid → version q.before < version r.before
@@ -80,11 +80,11 @@ pub record InAFinishedUpdate (C : Cipher) (cs : List Call) (c : Call) : Type 0 w
   pub one_of : OneOf c (record { at = first; packet = packet } ∷ others)
   pub finished : Any (λ d. Taken d.at × (d.packet.pn ≡ d.packet.np)) (record { at = first; packet = packet } ∷ others)
 
--- the first time a packet was taken, as a key packet or in an update that is finished
+-- call c took the packet core: as a key packet, or as a packet of an update that is finished within the calls cs
 abbrev pub UsedUp : Cipher → List Call → Call → List ℕ → Type 0
 UsedUp C cs c core = Taken c × (Begins 0x31 core ⊎ (Begins 0x30 core × InAFinishedUpdate C cs c))
 
--- the key value of a packet: the data key for 0x30, the key-encryption key for 0x31
+-- two calls held the same key value for a packet: the data key for 0x30, the key-encryption key for 0x31
 abbrev pub SameKey : List ℕ → Call → Call → Type 0
 SameKey core c d =
     (Begins 0x30 core → data_key c.before.contents.held ≡ data_key d.before.contents.held)

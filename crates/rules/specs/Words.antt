@@ -42,11 +42,11 @@ Arrives c core = heard c.before c.event ≡ framed core
 abbrev pub Begins : ℕ → List ℕ → Type 0
 Begins b core = (rest : List ℕ) × (core ≡ b ∷ rest)
 
--- a packet is taken if its call answers no refusal ..
+-- a packet is taken if its call answers no refusal
 abbrev pub Taken : Call → Type 0
 Taken c = c.answer.refusal ≡ None
 
--- .. else refused
+-- a packet is refused if its call answers a refusal
 abbrev pub Refused : Call → Type 0
 Refused c = (f : Fault) × (c.answer.refusal ≡ Some f)
 
@@ -95,7 +95,7 @@ pub record Delivery : Type 0 where
   pub at : Call
   pub packet : Packet
 
--- The packets of an update behind its first, among the calls behind that one: each data packet taken, until another update opens.
+-- The packets of an update after its first, among the calls after that one: each data packet taken, until another update opens.
 pub data Packets (C : Cipher) : List Call → List Delivery → Type 0 where
   end : Packets C [] []
   another : {c : Call} {cs : List Call} → Opening C c → Packets C (c ∷ cs) []
@@ -145,7 +145,7 @@ abbrev pub laid_over : List Delivery → List ℕ → List ℕ
 laid_over [] i = i
 laid_over (d ∷ ds) i = laid_over ds (lay d.packet.address d.packet.bytes i)
 
--- an update is whole: d is its first packet, ds the others, cs the calls behind its first packet's
+-- an update is whole: d is its first packet, ds the others, cs the calls after its first packet's
 pub record Whole (C : Cipher) (d : Delivery) (cs : List Call) (ds : List Delivery) : Type 0 where
   pub taken : Taken d.at
   pub unbroken : Unbroken C cs ds

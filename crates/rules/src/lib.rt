@@ -22,7 +22,7 @@ pub enum Boot {
 }
 
 impl Boot {
-    // The number of the answer: a name says what the number is, which a From would not.
+    // The number of the answer.
     pub fn number(self) -> u8
         ensures { result ≡ boot_number self }
     {
@@ -46,8 +46,7 @@ impl fmt::Display for Boot {
     }
 }
 
-// No update is under way, or one that expects a packet number, of so many packets. No Option of the two: 'closed' is what the rules
-// and the checks of a packet's turn say.
+// The session: none, or an update that expects this packet number, of so many. An enum of its own, since the rules speak of a closed session.
 #[derive(Clone, Copy, PartialEq, Eq, Debug)]
 pub enum Session {
     Closed,
@@ -123,7 +122,7 @@ pub fn key_types_name_keys()
     ensures { KeyTypesNameKeys }
 {}
 
-// A long run may be made in pieces: the history of calls behind others is theirs, and then that of the calls from the board that they left.
+// A long run may be made in pieces: the history of calls after others is theirs, and then that of the calls from the board that they left.
 pub fn histories_join()
     ensures { HistoriesJoin }
 {}

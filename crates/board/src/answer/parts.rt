@@ -51,7 +51,7 @@ impl Answer {
         }
     }
 
-    // Of a call that sends and says nothing: a name says of which call, which a From would not, here and below.
+    // Of a call that sends and says nothing.
     pub(crate) fn plain(answer: Result<(), Fault>) -> Answer
         ensures { result ≡ plain_answer answer }
     {

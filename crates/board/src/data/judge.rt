@@ -1,8 +1,8 @@
 // Judging opened contents: the numbers, their turn, and the addresses of the data.
 ghost use Rattle.std.specs.Prelude.{◌≡◌, ℕ, List, [], length};
-ghost use Rattle.rules.specs.Board.{may_open, may_follow};
-ghost use Rattle.board.specs.Judging.{judge_by, numbers_checked, turn_checked};
-ghost use Rattle.board.specs.Opening.{lying};
+ghost use Rattle.rules.specs.Board.{may_open, may_follow, numbers_checked, turn_checked};
+ghost use Rattle.board.specs.Judging.{judge_by, seen};
+ghost use Rattle.board.specs.Opening.{with_work};
 ghost use Rattle.board.specs.States.{judged_in, packet_in, packet_with};
 
 use super::{Judged, Opened};
@@ -44,7 +44,7 @@ impl Opened {
     }
 
     fn check_turn(&self, session: &Session, held: &Held) -> Result<(), Fault>
-        ensures { (bs : List ℕ) → result ≡ turn_checked session.now held.now (packet_with self.now bs) }
+        ensures { (bs : List ℕ) → result ≡ turn_checked (seen session.now held.now) (packet_with self.now bs) }
     {
         if self.pn == 1 {
             if !self.may_open(held) {
@@ -58,7 +58,7 @@ impl Opened {
 
     // All checks of the fields, whatever the data are; the contents are used up, and come out judged.
     pub(crate) fn judge(self, session: &Session, held: &Held) -> Result<Judged, Fault>
-        ensures { (work : List ℕ) → length work ≡ 266 → lying judged_in work result ≡ judge_by session.now held.now (packet_in self work) }
+        ensures { (work : List ℕ) → length work ≡ 266 → with_work judged_in work result ≡ judge_by session.now held.now (packet_in self work) }
     {
         self.check_numbers()?;
         self.check_turn(session, held)?;

@@ -1,7 +1,7 @@
 // Opening a data packet, which uses it up.
 ghost use Rattle.std.specs.Prelude.{◌≡◌, length};
 ghost use Rattle.rules.specs.Board.{fields};
-ghost use Rattle.board.specs.Opening.{lying, opened_by};
+ghost use Rattle.board.specs.Opening.{with_work, opened_by};
 ghost use Rattle.board.specs.States.{packet_in, packet_with};
 
 use super::Opened;
@@ -38,7 +38,7 @@ impl Opened {
         work: &mut [u8; WORK],
     ) -> Result<Opened, Fault>
         requires { sealed.length ≡ length core.buffer.now }
-        ensures { lying packet_in work.new result ≡ opened_by C.cipher fields key.now core.entry.buffer.now }
+        ensures { with_work packet_in work.new result ≡ opened_by C.cipher fields key.now core.entry.buffer.now }
     {
         let n = sealed.open::<C>(core, key, work)?;
         Ok(Opened::read(Contents::over(&work[..n])))

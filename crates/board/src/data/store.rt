@@ -60,7 +60,7 @@ impl Judged {
 }
 
 impl Stored {
-    // The session behind the packet.
+    // The session after the packet.
     pub(crate) fn session(self) -> Session
         ensures { result ≡ session_after (stored_packet self) }
     {

@@ -2,7 +2,7 @@
 ghost use Rattle.std.specs.Prelude.{◌≡◌, ℕ, List};
 ghost use Rattle.board.specs.Judging.{judge_key_by};
 ghost use Rattle.board.specs.Keys.{key_in, key_step, steps_of};
-ghost use Rattle.board.specs.Opening.{lying};
+ghost use Rattle.board.specs.Opening.{with_work};
 
 use super::{JudgedKey, OpenedKey};
 use fault::Fault;
@@ -11,7 +11,7 @@ use memory::{Held, KeySlot};
 impl OpenedKey {
     // Both checks of the fields, whatever the key is; the contents are used up, and come out judged.
     pub(crate) fn judge(self, held: &Held) -> Result<JudgedKey, Fault>
-        ensures { (work : List ℕ) → lying key_step work result ≡ steps_of (judge_key_by held.now (key_in self work)) }
+        ensures { (work : List ℕ) → with_work key_step work result ≡ steps_of (judge_key_by held.now (key_in self work)) }
     {
         let slot = KeySlot::try_from(self.kt)?;
         let old = held.keys[slot.place()];

@@ -2,7 +2,7 @@
 ghost use Rattle.std.specs.Prelude.{◌≡◌, length};
 ghost use Rattle.rules.specs.Board.{key_fields};
 ghost use Rattle.board.specs.Keys.{key_in};
-ghost use Rattle.board.specs.Opening.{lying, opened_by};
+ghost use Rattle.board.specs.Opening.{with_work, opened_by};
 
 use super::OpenedKey;
 use crate::core_command::CoreCommand;
@@ -20,7 +20,7 @@ impl OpenedKey {
         work: &mut [u8; WORK],
     ) -> Result<OpenedKey, Fault>
         requires { sealed.length ≡ length core.buffer.now }
-        ensures { lying key_in work.new result ≡ opened_by C.cipher key_fields key.now core.entry.buffer.now }
+        ensures { with_work key_in work.new result ≡ opened_by C.cipher key_fields key.now core.entry.buffer.now }
     {
         sealed.open::<C>(core, key, work)?;
         Ok(OpenedKey {

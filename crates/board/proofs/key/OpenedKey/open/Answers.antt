@@ -2,12 +2,12 @@ use Rattle.std.proofs.Common.{◌≡◌, take, Ok, ap, ◌∙◌, arith}
 use Rattle.memory.proofs.Exits.{passed_on}
 use Rattle.rules.specs.Board.{key_fields}
 use Rattle.board.specs.Keys.{key_in}
-use Rattle.board.specs.Opening.{lying}
+use Rattle.board.specs.Opening.{with_work}
 use Rattle.board.proofs.Opening.{key_lies, open_fails, open_reads}
 use Rattle.board.proofs.key.OpenedKey.open.Goals as goal
 
 pub returns-in_err-open : goal.returns-in_err-open
-returns-in_err-open g c = ap (lying key_in c.open.new.work) (passed_on _ _ c.from_residual.ensures.1) ∙ open_fails key_fields _ _ _ c.in_err-open.ensures.value
+returns-in_err-open g c = ap (with_work key_in c.open.new.work) (passed_on _ _ c.from_residual.ensures.1) ∙ open_fails key_fields _ _ _ c.in_err-open.ensures.value
 
 pub returns : goal.returns
 returns g c =
