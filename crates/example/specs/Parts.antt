@@ -9,7 +9,7 @@ use Rattle.packer.specs.Packing.{packet}
 abbrev pub part_address : ℕ → ℕ
 part_address n = cond (n == 1) 0x4400 (cond (n == 2) 0x4500 0xFFFE)
 
--- the bytes of a part: the program's twice, then the reset vector 0x4400
+-- the bytes of a part: 256 bytes of the version's number in parts 1 and 2, the reset vector 0x4400 in part 3
 abbrev pub part_bytes : ℕ → ℕ → List ℕ
 part_bytes v n = cond (nat_lt n 3) (replicate 256 v) (0x00 ∷ 0x44 ∷ [])
 

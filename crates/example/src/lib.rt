@@ -1,8 +1,8 @@
-// An example update for demonstrations: three packets of firmware, packed with CCM, and the calls that send a frame.
+// An example update for demonstrations: three packets of firmware, packed with CCM, the calls that send a frame, and those that send a mass erase.
 #![tactic(auto)]
 
 mod sending;
 mod update;
 
-pub use sending::push_frame;
+pub use sending::{push_erase, push_frame};
 pub use update::{COUNT, Frame, pack_part};

@@ -53,7 +53,8 @@ fn pack_bytes(key: &[u8; 16], version: u8, number: u8, bytes: &[u8]) -> Result<F
     Ok(Frame::front(&buffer, length))
 }
 
-// Packs part `number` of a version of the update, under a data key: 256 bytes of the version's number twice, then the reset vector.
+// Packs part `number` of a version of the update, under a data key: 256 bytes of the version's number in each of the first two parts, the reset
+// vector in the last.
 pub fn pack_part(key: &[u8; 16], version: u8, number: u8) -> Result<Frame, Fault>
     ensures packed { is_ok result ≡ true }
     ensures made { IfOk result (λ f. f ≡ frame (part_packet key.now version number (part_bytes version number))) }

@@ -1,11 +1,7 @@
 // What is measured, in turns of so many pieces: how many of them were done, and how long the turn took.
-ghost use Rattle.std.specs.Prelude.{◌≡◌, ◌≢◌, ◌<◌, count_by, replicate, IfOk};
-ghost use Rattle.cipher.specs.Aes.{aes};
-ghost use Rattle.cipher.specs.Ccm.{ccm};
-ghost use Rattle.rules.specs.Board.{history};
-ghost use Rattle.rules.specs.Promises.{Given, start};
-ghost use Rattle.board.specs.Running.{answers};
-ghost use Rattle.speed.specs.Sending.{obeyed};
+ghost use Rattle.std.specs.Prelude.{◌≡◌, ◌≢◌, ◌<◌, min, replicate, IfOk};
+ghost use Rattle.rules.specs.Promises.{Given};
+ghost use Rattle.speed.specs.Sending.{erases_calls, obeyed_of, first_packet_calls};
 ghost use Rattle.speed.specs.declared.work.Work.TheVariants.{Packet, Erase};
 
 use crate::calling::obey;
@@ -70,7 +66,7 @@ fn open<C: PacketCipher>(rt: &HostRuntime, iv: &[u8; 16], pieces: u32) -> anyhow
 
 // Makes calls on a fresh board over an image.
 fn call(rt: &HostRuntime, image: &mut [u8], calls: &[Event]) -> anyhow::Result<Turn>
-    ensures { (g : Given) → g.image ≡ image.old → g.data_key_bytes ≡ replicate 16 7 → g.kek_bytes ≡ replicate 16 9 → IfOk result (λ turn. turn.done ≡ count_by obeyed (answers (history (ccm aes) (start g) calls.now))) }
+    ensures { (g : Given) → g.image ≡ image.old → g.data_key_bytes ≡ replicate 16 7 → g.kek_bytes ≡ replicate 16 9 → IfOk result (λ turn. turn.done ≡ obeyed_of g calls.now) }
 {
     let mut board: Board<LentImage, Ccm<Aes128>> = Board::fresh(image, KEY, KEK)?;
     let start = Instant::now(rt)?;
@@ -109,7 +105,7 @@ impl fmt::Display for Work {
 }
 
 impl Work {
-    // How many pieces make a turn that is long enough to be measured: no packets but of the versions 1 to 255.
+    // How many pieces make a turn that is long enough to be measured: of packets at most 255, one for each version.
     pub fn pieces(self) -> u32
         ensures { 0 < result }
     {
@@ -121,9 +117,10 @@ impl Work {
         }
     }
 
-    // Does so many pieces, on an image as long as the map.
+    // Does so many pieces, on an image as long as the map; of packets at most 255, one for each version.
     pub fn turn(self, rt: &HostRuntime, image: &mut [u8], pieces: u32) -> anyhow::Result<Turn>
-        ensures { IfOk result (λ turn. self ≢ Packet → self ≢ Erase → turn.done ≡ pieces) }
+        ensures all { IfOk result (λ turn. self ≢ Packet → self ≢ Erase → turn.done ≡ pieces) }
+        ensures obeyed { (g : Given) → g.image ≡ image.old → g.data_key_bytes ≡ replicate 16 7 → g.kek_bytes ≡ replicate 16 9 → IfOk result (λ turn. (self ≡ Packet → turn.done ≡ obeyed_of g (first_packet_calls (replicate 16 7) (min pieces 255))) × (self ≡ Erase → turn.done ≡ obeyed_of g (erases_calls pieces))) }
     {
         match self {
             Work::OpenCcm => open::<Ccm<Aes128>>(rt, &CCM_IV, pieces),

@@ -1,10 +1,10 @@
-use Rattle.std.proofs.Common.{◌++◌, ap₂, ◌∙◌}
-use Rattle.example.specs.Frames.{calls}
+use Rattle.std.proofs.Common.{◌++◌, ap, ◌∙◌}
+use Rattle.example.specs.Frames.{erase_calls}
 use Rattle.speed.proofs.Sendings.{erase_more}
 use Rattle.speed.proofs.sending.erases.Goals as goal
 
 pub loop-preserved : goal.loop-preserved
 loop-preserved c =
-    c.in_ok-push_frame.ensures
-    ∙ ap₂ (λ es bs. es ++ calls bs) c.loop.invariant c.erase_frame-frame.ensures
+    c.in_ok-push_erase.ensures
+    ∙ ap (λ es. es ++ erase_calls) c.loop.invariant
     ∙ erase_more c.loop.counter
