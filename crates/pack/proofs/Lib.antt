@@ -1,1 +1,2 @@
-mod Opened
+pub mod Fronts
+pub mod Opened

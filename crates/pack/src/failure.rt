@@ -6,13 +6,13 @@ use std::{fmt, io};
 
 #[derive(Clone, Copy)]
 pub enum Failure {
-    // An argument is malformed, of a form of the program.
+    // A malformed argument, and the usage form it belongs to.
     Malformed(Form, Argument),
     // A check refuses the packet.
     Refused(Fault),
     // The frame did not open again to the same contents.
     NotOpened,
-    // There is no memory, or a stream takes nothing: of that nothing is told.
+    // No memory, or a stream failed: nothing is printed.
     System,
 }
 

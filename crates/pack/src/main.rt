@@ -65,7 +65,7 @@ fn tell(rt: &HostRuntime, failure: Failure) -> io::Result<()> {
     }
 }
 
-// The status says that the program fails also where nothing can be written.
+// The exit status tells of a failure even where nothing can be written.
 fn main(rt: HostRuntime) -> ExitCode {
     match run(&rt) {
         Ok(()) => ExitCode::SUCCESS,

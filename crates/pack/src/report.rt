@@ -1,13 +1,21 @@
 // Packs, prints what was packed and the frame, opens the frame again and says so.
-ghost use Rattle.std.specs.Prelude.{◌≡◌, true, is_ok, Some};
-ghost use Rattle.pack.specs.Report.{PacksData, PacksKey, OpensFrame};
+ghost use Rattle.std.specs.Prelude.{◌≡◌, ℕ, true, List, is_ok, IfOk, Some};
+ghost use Rattle.packer.specs.Packets.{data_contents, key_contents};
+ghost use Rattle.pack.specs.Report.{PacksData, PacksKey, OpensFrame, data_packet, key_packet};
 
 use crate::arguments::{DataArguments, KeyArguments};
 use crate::failure::Failure;
+use buffer::Buffer;
 use cipher::PacketCipher;
 use packer::{DataPacket, KeyPacket, pack_data, pack_key};
 use std::fmt;
 use text::lines::HexLines;
+
+// The longest frame of a packet.
+const FRAME_MAX: usize = 304;
+
+// A frame; contracts see its bytes.
+type Frame = Buffer<FRAME_MAX>;
 
 // The type of a key, shown by its name.
 #[derive(Clone, Copy)]
@@ -59,55 +67,85 @@ fn show<C: PacketCipher>(
     Ok(())
 }
 
+fn data_packet<'a>(a: &DataArguments, bytes: &'a [u8]) -> DataPacket<'a>
+    ensures { result ≡ data_packet a.now bytes.entry }
+{
+    DataPacket {
+        version: a.version,
+        number: a.number,
+        count: a.count,
+        address: a.address,
+        bytes,
+    }
+}
+
+fn key_packet(a: &KeyArguments) -> KeyPacket
+    ensures { result ≡ key_packet a.now }
+{
+    KeyPacket {
+        kind: a.kind,
+        version: a.version,
+        key: a.key,
+    }
+}
+
+// The frame of the data packet that the arguments ask for.
+fn data_frame<C: PacketCipher>(a: &DataArguments, bytes: &[u8]) -> Result<Frame, Failure>
+    ensures { IfOk result (PacksData C.PacketCipher.cipher a.now bytes.entry) }
+{
+    let packet = data_packet(a, bytes);
+    let mut out = [0; FRAME_MAX];
+    let length = pack_data::<C>(&a.key, &a.iv, &packet, &mut out)?;
+    Ok(Frame::front(&out, length))
+}
+
+// The frame of the key packet that the arguments ask for.
+fn key_frame<C: PacketCipher>(a: &KeyArguments) -> Result<Frame, Failure>
+    ensures { IfOk result (PacksKey C.PacketCipher.cipher a.now) }
+{
+    let packet = key_packet(a);
+    let mut out = [0; FRAME_MAX];
+    let length = pack_key::<C>(&a.kek, &a.iv, &packet, &mut out)?;
+    Ok(Frame::front(&out, length))
+}
+
 // Packs a data packet and prints its frame; an error where a check refuses it.
 pub fn report_data<C: PacketCipher>(
     rt: &HostRuntime,
     a: &DataArguments,
     bytes: &[u8],
 ) -> Result<(), Failure>
-    ensures { is_ok result ≡ true → PacksData C.PacketCipher.cipher a.now bytes.entry }
+    ensures { is_ok result ≡ true → (frame : List ℕ) × PacksData C.PacketCipher.cipher a.now bytes.entry frame × OpensFrame C.PacketCipher.cipher a.now.key a.now.iv frame (data_contents (data_packet a.now bytes.entry)) }
 {
-    let heap = rt.alloc();
-    let packet = DataPacket {
-        version: a.version,
-        number: a.number,
-        count: a.count,
-        address: a.address,
-        bytes,
-    };
-    // The frame fills it.
-    let mut out = vec![in heap; 0u8; bytes.len().saturating_add(48)]?;
-    let length = pack_data::<C>(&a.key, &a.iv, &packet, &mut out)?;
-    let mut contents = packet.header().to_vec(heap)?;
+    let frame = data_frame::<C>(a, bytes)?;
+    let frame = frame.as_slice();
+    let mut contents = data_packet(a, bytes).header().to_vec(rt.alloc())?;
     contents.extend_from_slice(bytes)?;
     println!(rt;
-        "Packed data packet {} of {} of version {}: {} bytes for 0x{:05X}, sealed with {}, in a frame of {length} bytes:",
+        "Packed data packet {} of {} of version {}: {} bytes for 0x{:05X}, sealed with {}, in a frame of {} bytes:",
         a.number,
         a.count,
         a.version,
         bytes.len(),
         a.address,
-        a.mode
+        a.mode,
+        frame.len()
     )?;
-    show::<C>(rt, &a.key, &a.iv, &out, &contents)
+    show::<C>(rt, &a.key, &a.iv, frame, &contents)
 }
 
 // Packs a key packet and prints its frame; an error where a check refuses it.
 pub fn report_key<C: PacketCipher>(rt: &HostRuntime, a: &KeyArguments) -> Result<(), Failure>
-    ensures { is_ok result ≡ true → PacksKey C.PacketCipher.cipher a.now }
+    ensures { is_ok result ≡ true → (frame : List ℕ) × PacksKey C.PacketCipher.cipher a.now frame × OpensFrame C.PacketCipher.cipher a.now.kek a.now.iv frame (key_contents (key_packet a.now)) }
 {
-    let packet = KeyPacket {
-        kind: a.kind,
-        version: a.version,
-        key: a.key,
-    };
-    let mut out = [0; 56];
-    pack_key::<C>(&a.kek, &a.iv, &packet, &mut out)?;
+    let frame = key_frame::<C>(a)?;
+    let frame = frame.as_slice();
     println!(rt;
-        "Packed a key packet: {} of version {}, sealed with {}, in a frame of 56 bytes:",
+        "Packed a key packet: {} of version {}, sealed with {}, in a frame of {} bytes:",
         KeyType(a.kind),
         a.version,
-        a.mode
+        a.mode,
+        frame.len()
     )?;
-    show::<C>(rt, &a.kek, &a.iv, &out, &packet.contents())
+    show::<C>(rt, &a.kek, &a.iv, frame, &key_packet(a).contents())
 }

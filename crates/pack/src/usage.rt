@@ -9,7 +9,7 @@ pub enum Form {
     Unknown,
 }
 
-// An argument by its name in the usage, or their number.
+// An argument by its name in the usage, or the number of arguments.
 #[derive(Clone, Copy)]
 pub enum Argument {
     Command,
