@@ -9,7 +9,7 @@ use Rattle.cipher.specs.Cipher.{Cipher, iv_checked}
 abbrev pub sealed : Cipher → List ℕ → List ℕ → List ℕ → Result (List ℕ) Fault
 sealed C key iv contents = then (iv_checked C iv) (Ok (C.seal key iv contents))
 
--- contents, if there are some
+-- the contents, or refusal 12 where the body does not open
 abbrev pub contents_or_none : Option (List ℕ) → Result (List ℕ) Fault
 contents_or_none None = Err NotOpened
 contents_or_none (Some c) = Ok c

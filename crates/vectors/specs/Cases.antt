@@ -30,18 +30,19 @@ bytes_read [] = None
 bytes_read (d ∷ []) = cond (d == 45) (Some []) None
 bytes_read (d ∷ e ∷ ds) = hex_read (d ∷ e ∷ ds)
 
--- a block
+-- the answer to a block case
 abbrev pub block_read_answer : List ℕ → List ℕ → Option (Result (List ℕ) Fault)
 block_read_answer key block = and_then (block_read key) (λ k. and_then (block_read block) (λ b. Some (Ok (aes k b))))
 
--- a body, for contents of at most 266 bytes
+-- the body of contents of at most 266 bytes; nothing for more
 abbrev pub sealed_short : Cipher → List ℕ → List ℕ → List ℕ → Option (Result (List ℕ) Fault)
 sealed_short C key iv contents = cond (nat_le (length contents) 266) (Some (sealed C key iv contents)) None
 
--- a frame, for an output of at most 1024 bytes
+-- the frame of a data packet, for an output of at most 1024 bytes; nothing for a larger one
 abbrev pub data_packed : Cipher → List ℕ → List ℕ → DataPacket → ℕ → Option (Result (List ℕ) Fault)
 data_packed C key iv p room = cond (nat_le room 1024) (Some (packed_data C key iv p room)) None
 
+-- the frame of a key packet, likewise
 abbrev pub key_packed : Cipher → List ℕ → List ℕ → KeyPacket → ℕ → Option (Result (List ℕ) Fault)
 key_packed C kek iv p room = cond (nat_le room 1024) (Some (packed_key C kek iv p room)) None
 
@@ -49,22 +50,22 @@ key_packed C kek iv p room = cond (nat_le room 1024) (Some (packed_key C kek iv 
 abbrev pub packet_of : DataFields → List ℕ → DataPacket
 packet_of f bs = record { version = f.version; number = f.number; count = f.count; address = f.address; bytes = record { ref_ptr = (0, 0); now = bs } }
 
--- a body, for the words of what seals it and of the contents
+-- the answer to a seal case: a body, for the words of what seals it and of the contents
 abbrev pub seal_read : List ℕ → List ℕ → List ℕ → List ℕ → Option (Result (List ℕ) Fault)
 seal_read cipher key iv contents =
     and_then (sealing_read cipher key iv) (λ w. and_then (bytes_read contents) (λ bs. sealed_short (cipher_of w.mode) w.key w.iv bs))
 
--- contents, for the words of what opens them and of the body
+-- the answer to an open case: contents, for the words of what opens them and of the body
 abbrev pub open_read : List ℕ → List ℕ → List ℕ → List ℕ → Option (Result (List ℕ) Fault)
 open_read cipher key iv body =
     and_then (sealing_read cipher key iv) (λ w. and_then (bytes_read body) (λ bs. Some (opened (cipher_of w.mode) w.key w.iv bs)))
 
--- a frame, for what seals it, the fields and the word of the data
+-- the answer to a data case: a frame, for what seals it, the fields and the word of the data
 abbrev pub data_given : Option Sealing → Option DataFields → List ℕ → Option (Result (List ℕ) Fault)
 data_given with fields bytes =
     and_then with (λ w. and_then fields (λ f. and_then (bytes_read bytes) (λ bs. data_packed (cipher_of w.mode) w.key w.iv (packet_of f bs) f.room)))
 
--- a frame, for what seals it, a key packet and the room
+-- the answer to a key case: a frame, for what seals it, a key packet and the room
 abbrev pub key_given : Option Sealing → Option KeyPacket → Option ℕ → Option (Result (List ℕ) Fault)
 key_given with packet room = and_then with (λ w. and_then packet (λ p. and_then room (λ r. key_packed (cipher_of w.mode) w.key w.iv p r)))
 

@@ -1,5 +1,6 @@
 -- What words of cases say.
-use Rattle.std.specs.Prelude.{ℕ, cond, List, Some, None, codes, Option}
+use Rattle.std.specs.Prelude.{ℕ, cond, List, Some, None, codes, Option, ◌==◌}
+use Rattle.std.specs.List.{slice_split}
 use Rattle.std.specs.Str.{bytes_eq}
 use Rattle.text.specs.Numbers.{and_then}
 use Rattle.text.specs.Decimal.{decimal_read}
@@ -9,6 +10,10 @@ use Rattle.vectors.specs.declared.words.Mode.{Mode}
 use Rattle.vectors.specs.declared.words.Mode.TheVariants.{Ccm, Gcm}
 use Rattle.vectors.specs.declared.words.Sealing.{Sealing}
 use Rattle.vectors.specs.declared.words.DataFields.{DataFields}
+
+-- the words of a line: what stands between its spaces
+abbrev pub words_read : List ℕ → List (List ℕ)
+words_read line = slice_split (λ b. b == 32) line
 
 -- the mode that a word names
 abbrev pub mode_read : List ℕ → Option Mode

@@ -1,4 +1,4 @@
-// A case, one line of words, and its answer. None answers where the line is no case.
+// The answer to a case, a line of words; None where the line is no case.
 ghost use Rattle.std.specs.Prelude.{◌≡◌, map, IfOk, vec_items};
 ghost use Rattle.std.specs.Option.{option_map};
 ghost use Rattle.vectors.specs.Answers.{opened};

@@ -1,40 +1,34 @@
 // vectors: reads cases for the ciphers and the packer from standard input, one to a line, and prints what each gives.
 #![tactic(auto)]
 
+ghost use Rattle.std.specs.Prelude.{◌≡◌, ◌++◌, IfOk, string_bytes};
+ghost use Rattle.vectors.specs.Cases.{answer_read};
+ghost use Rattle.vectors.specs.Texts.{row_text};
+ghost use Rattle.vectors.specs.Words.{words_read};
+
 mod answers;
 mod cases;
 mod texts;
 mod words;
 
-use cases::{Answer, answer_to};
+use cases::answer_to;
+use std::alloc::{AllocError, Global};
 use std::io::{BufWriter, Write};
-use texts::push_bytes;
+use texts::push_answer;
+use words::words_of;
 
-// Appends the row of an answer: bytes, or the refusal, or that the line is no case.
-fn push_answer(rt: &HostRuntime, out: &mut String, answer: &Option<Answer>) -> anyhow::Result<()> {
-    match answer {
-        None => out.push_str("malformed")?,
-        Some(Ok(bytes)) => push_bytes(out, bytes.as_slice())?,
-        Some(Err(fault)) => write!(out, "refused {} {}", fault.number(), fault.place())?,
-    }
-    out.push('\n')?;
-    Ok(())
-}
-
-// The row of a line.
-fn push_row(rt: &HostRuntime, out: &mut String, line: &str) -> anyhow::Result<()> {
-    let mut words = Vec::new(rt.alloc());
-    for word in line.split(' ') {
-        words.push(word)?;
-    }
-    let answer = answer_to(rt.alloc(), &words)?;
-    push_answer(rt, out, &answer)
+// Appends the row of a line.
+fn push_row(heap: Global, out: &mut String, line: &str) -> Result<(), AllocError>
+    ensures { IfOk result (λ u. string_bytes out.new ≡ string_bytes out.old ++ row_text (answer_read (words_read line.now))) }
+{
+    let words = words_of(heap, line)?;
+    push_answer(out, &answer_to(heap, &words)?)
 }
 
 fn main(rt: HostRuntime) -> anyhow::Result<()> {
     let mut out = String::new(rt.alloc());
     for line in rt.lines(rt.alloc()) {
-        push_row(&rt, &mut out, line?.as_str())?;
+        push_row(rt.alloc(), &mut out, line?.as_str())?;
         if out.len() > 65536 {
             rt.stdout().write_all(out.as_bytes())?;
             out.clear();

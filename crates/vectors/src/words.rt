@@ -1,13 +1,21 @@
-// The words of a case that several kinds of cases have.
-ghost use Rattle.std.specs.Prelude.{◌≡◌};
+// A line cut into words, and the words that several kinds of cases share.
+ghost use Rattle.std.specs.Prelude.{◌≡◌, map, vec_items, IfOk};
 ghost use Rattle.std.specs.Result.{result_ok};
 ghost use Rattle.text.specs.Decimal.{decimal_read};
-ghost use Rattle.vectors.specs.Words.{data_read, key_read, mode_read, sealing_read};
+ghost use Rattle.vectors.specs.Words.{data_read, key_read, mode_read, sealing_read, words_read};
 
 use packer::{DataPacket, KeyPacket};
+use std::alloc::{AllocError, Global};
 use std::str::FromStr;
 use text::decimal::decimal;
 use text::hex::hex_block;
+
+// The words of a line, cut at each space.
+pub fn words_of(heap: Global, line: &str) -> Result<Vec<&str>, AllocError>
+    ensures { IfOk result (λ words. map (λ w. w.now) (vec_items words) ≡ words_read line.now) }
+{
+    line.split(' ').collect(heap)
+}
 
 #[derive(Clone, Copy)]
 pub enum Mode {
