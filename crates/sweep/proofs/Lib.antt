@@ -1,3 +1,4 @@
 pub mod Fillers
 pub mod Preparing
 pub mod Sending
+pub mod Sweepings

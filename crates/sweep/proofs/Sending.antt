@@ -1,11 +1,11 @@
 -- The calls that send a frame, behind those that were there.
-use Rattle.std.proofs.Common.{◌≡◌, ℕ, suc, ◌+◌, ◌-◌, ◌≤◌, List, [], ◌∷◌, ◌++◌, replicate, sym, refl, ap, ◌∙◌, arith}
+use Rattle.std.proofs.Common.{◌≡◌, ℕ, suc, ◌+◌, ◌-◌, ◌≤◌, List, ◌++◌, sym, ap, ◌∙◌, arith}
 use Rattle.std.proofs.lemmas.List.{append-nil, append_assoc}
 use Rattle.example.specs.Frames.{calls}
 use Rattle.example.specs.Parts.{part_bytes, part_packet}
 use Rattle.rules.specs.declared.Event.{Event}
-use Rattle.sweep.specs.Plans.{erase_calls, part_calls, parts_calls}
-use Rattle.wire.specs.Frame.{frame, framed}
+use Rattle.sweep.specs.Plans.{part_calls, parts_calls}
+use Rattle.wire.specs.Frame.{frame}
 
 -- of no part
 pub parts_none : (key : List ℕ) (xs : List Event) → xs ≡ xs ++ parts_calls key 0
@@ -23,8 +23,3 @@ parts_more key bs n xs ys zs h e k b =
     ∙ append_assoc xs (parts_calls key (n - 1)) (part_calls key n)
     ∙ ap (λ m. xs ++ (parts_calls key (n - 1) ++ part_calls key m)) z
     ∙ ap (λ m. xs ++ parts_calls key m) (sym w)
-
--- the frame of a mass erase fills 6 bytes
-pub erase_sent : calls (framed 1 (0x15 ∷ []) (replicate 6 0)) ≡ erase_calls
-unfolding frame erase_calls
-erase_sent = refl

@@ -15,7 +15,7 @@ use Rattle.rules.specs.Board.{State, run, step}
 abbrev pub board_on : Meaning → State
 board_on m = lit_board m Closed
 
--- with power for so many storing steps, behind the calls
+-- the board after the calls, given power for n storing steps
 abbrev pub cut_at : Cipher → ℕ → List Event → State → State
 cut_at C n calls s = run C (step C s (PowerUp (Steps n))).state calls
 
@@ -23,11 +23,11 @@ cut_at C n calls s = run C (step C s (PowerUp (Steps n))).state calls
 abbrev pub said_at : Cipher → State → Option Boot
 said_at C s = (step C s Question).answer.said
 
--- behind a boot question, with power again
+-- the board after a boot question and a power-up without end
 abbrev pub power_back : Cipher → State → State
 power_back C s = (step C (step C s Question).state (PowerUp NoEnd)).state
 
--- how many steps of a million are not left
+-- how many of 1,000,000 steps are used up; 0 where the supply has no end
 abbrev pub steps_taken : Supply → ℕ
 steps_taken (Steps left) = 1000000 - left
 steps_taken NoEnd = 0

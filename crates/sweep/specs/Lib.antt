@@ -7,4 +7,5 @@ pub mod Kinds
 pub mod Plans
 pub mod Programs
 pub mod Sweeps
+pub mod Swept
 pub mod Tallies

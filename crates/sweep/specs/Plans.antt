@@ -25,7 +25,3 @@ update_calls key = parts_calls key 3
 -- the calls that send a new data key: type 0, version 1
 unfoldable pub key_calls : List Event
 key_calls = calls (frame (packet (ccm aes) 0x31 KEK KEY_IV (0 ∷ 1 ∷ NEW_KEY)))
-
--- the calls that send a mass erase
-unfoldable pub erase_calls : List Event
-erase_calls = calls (frame (0x15 ∷ []))

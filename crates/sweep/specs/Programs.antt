@@ -14,7 +14,7 @@ part_over a b from to = take a to ++ (take (b - a) (drop a from) ++ drop (b - a)
 abbrev pub with_program : List ℕ → List ℕ → List ℕ
 with_program from to = part_over 44670 44672 from (part_over 512 1024 from to)
 
--- An image has the old program's image as a whole, or the new program, over what stood there before.
+-- An image is the old program's in each byte, or what stood there before with the new program laid over.
 abbrev pub WholeProgram : List ℕ → List ℕ → List ℕ → List ℕ → Type 0
 WholeProgram old new stood image = (image ≡ old) ⊎ (image ≡ with_program new stood)
 
@@ -22,7 +22,7 @@ WholeProgram old new stood image = (image ≡ old) ⊎ (image ≡ with_program n
 abbrev pub program_answer : ℕ → Meaning → Result (Unit {0}) Fault
 program_answer v m = then (data_answer 0x4400 (replicate 512 v) m) (data_answer 0xFFFE (0x00 ∷ 0x44 ∷ []) (data_left 0x4400 (replicate 512 v) m))
 
--- and what it leaves
+-- what storing the program of a version leaves
 abbrev pub program_left : ℕ → Meaning → Meaning
 program_left v m =
     let half = data_left 0x4400 (replicate 512 v) m in

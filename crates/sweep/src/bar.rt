@@ -1,4 +1,4 @@
-// A bar of a chart: as many signs as its part of the whole, so that no part that is there goes unseen.
+// A bar of a chart: a part's share of the whole, rounded up so that a part that is not 0 shows.
 ghost use Rattle.std.specs.Prelude.{◌≡◌, Some, replicate};
 ghost use Rattle.sweep.specs.Bars.{bar_length};
 

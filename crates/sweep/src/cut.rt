@@ -13,6 +13,9 @@ use memory::{Held, Memory, Supply};
 use rules::{Boot, Event};
 use std::alloc::{AllocError, Global};
 
+// More steps than any packet or command takes.
+const LARGE: u32 = 1_000_000;
+
 // What the board said with the power gone and with the power back, none where it refused; and what its memory held then.
 #[derive(Clone, Copy)]
 pub struct Cut {
@@ -28,7 +31,7 @@ fn board_over<M: Memory>(memory: &mut M) -> Board<Borrowed<'_, M>, Ccm<Aes128>>
     Board::new(Borrowed { below: memory })
 }
 
-// Makes calls with power for so many steps, and asks; then the power comes back, and it asks once more.
+// Makes calls with power for so many steps and asks the boot question; then turns the power on and asks again.
 fn ask_twice<M: Memory, C: PacketCipher>(
     heap: Global,
     board: &mut Board<M, C>,
@@ -58,7 +61,7 @@ fn ask_after<M: Memory, C: PacketCipher>(
     Ok(board.boot().ok())
 }
 
-// Cuts the power of a board over a memory behind so many steps of what is sent.
+// Cuts the power of a board over a memory after so many steps of what is sent.
 pub(crate) fn cut_power<M: Memory>(
     heap: Global,
     memory: &mut M,
@@ -105,6 +108,3 @@ pub(crate) fn steps_of<M: Memory>(
         Supply::NoEnd => Ok(0),
     }
 }
-
-// More steps than any packet or command takes.
-const LARGE: u32 = 1_000_000;

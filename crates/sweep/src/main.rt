@@ -2,7 +2,9 @@
 // when the power is back, and when the update was sent again.
 #![tactic(auto)]
 
-ghost use Rattle.std.specs.Prelude.{◌<◌, IfOk};
+ghost use Rattle.std.specs.Prelude.{◌≡◌, ◌<◌, ⊤, IfOk, MatchOption};
+ghost use Rattle.sweep.specs.Sweeps.{stride_read};
+ghost use Rattle.sweep.specs.Swept.{SameImages, Swept};
 
 mod bar;
 mod borrowed;
@@ -72,42 +74,13 @@ fn table(rt: &HostRuntime, plan: &Plan, kind: Kind, report: &Report) -> anyhow::
     Ok(())
 }
 
-// Shows on standard error how far a sweep has come.
-fn progress(
-    rt: &HostRuntime,
-    plan: &Plan,
-    kind: Kind,
-    step: u32,
-    steps: u32,
-) -> anyhow::Result<()> {
-    eprint!(rt;
-        "\rsweep: step {step} of {steps} of {}, over {kind}   ",
-        plan.name
-    )?;
-    Ok(())
-}
-
-// Cuts the power at a plan's first step, its last, and each whose number is a multiple of `every`.
+// Sweeps a plan, and shows what was said.
 fn sweep(rt: &HostRuntime, images: &mut Images, plan: &Plan, every: u32) -> anyhow::Result<Report>
     requires { 0 < every }
+    ensures kept { SameImages images.old images.new }
+    ensures swept { IfOk result (Swept images.old plan.now every) }
 {
-    let steps = images.steps_of(rt.alloc(), plan)?;
-    let mut report = Report {
-        steps,
-        cuts: 0,
-        gone: Tally::empty(),
-        back: Tally::empty(),
-        again: Tally::empty(),
-        half: 0,
-    };
-    for step in 1..=steps {
-        if step % every == 0 || step == 1 || step == steps {
-            images.cut(rt.alloc(), plan, step, &mut report)?;
-        }
-        if step % 2000 == 0 || step == steps {
-            progress(rt, plan, images.kind, step, steps)?;
-        }
-    }
+    let report = images.sweep(rt, plan, every)?;
     eprintln!(rt; "")?;
     table(rt, plan, images.kind, &report)?;
     Ok(report)
@@ -125,7 +98,18 @@ fn sweep_all(rt: &HostRuntime, kind: Kind, every: u32) -> anyhow::Result<Counts>
     Ok(update.counts().and(key.counts()).and(erase.counts()))
 }
 
-// The program's argument, which says at how many steps of a mass erase the power is cut: at each where there is none.
+// The number that a word says, if it is above 0.
+fn stride_of(word: &str) -> Option<u32>
+    ensures number { result ≡ stride_read word.now }
+    ensures above { MatchOption result ⊤ (λ n. 0 < n) }
+{
+    match decimal(word.as_bytes(), u32::MAX)? {
+        0 => None,
+        n => Some(n),
+    }
+}
+
+// The program's argument N: a mass erase is cut at every N-th step; without it at every step.
 fn stride(rt: &HostRuntime) -> anyhow::Result<u32>
     ensures { IfOk result (λ n. 0 < n) }
 {
@@ -133,10 +117,10 @@ fn stride(rt: &HostRuntime) -> anyhow::Result<u32>
     let _program = words.next();
     match words.next() {
         None => Ok(1),
-        Some(word) => match decimal(word.as_bytes(), u32::MAX) {
-            Some(n) if n > 0 => Ok(n),
-            _ => Err(anyhow!(
-                "usage: sweep [EVERY]: cuts at every so many steps of a mass erase, a decimal number above 0"
+        Some(word) => match stride_of(word.as_str()) {
+            Some(n) => Ok(n),
+            None => Err(anyhow!(
+                "usage: sweep [N]: cuts a mass erase at its first step, its last and every N-th; N is a decimal number above 0"
             )),
         },
     }

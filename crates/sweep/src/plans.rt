@@ -1,14 +1,13 @@
-// What is cut, and what is sent again behind the cut: as lists of calls.
+// What is cut, and what is sent again after the cut: as lists of calls.
 ghost use Rattle.std.specs.Prelude.{◌≡◌, ℕ, ◌<◌, ◌++◌, IfErr, IfOk, OnErr, OnOk};
-ghost use Rattle.sweep.specs.Plans.{erase_calls, key_calls, parts_calls, update_calls};
+ghost use Rattle.example.specs.Frames.{erase_calls};
+ghost use Rattle.sweep.specs.Plans.{key_calls, parts_calls, update_calls};
 
-use anyhow::anyhow;
 use cipher::{Aes128, BlockCipher, Ccm};
-use example::{COUNT, pack_part, push_frame};
+use example::{COUNT, pack_part, push_erase, push_frame};
 use packer::{KeyPacket, pack_key};
 use rules::Event;
 use std::alloc::Global;
-use wire::frame::write_frame;
 
 pub const KEY: [u8; 16] = [7; 16];
 
@@ -51,19 +50,6 @@ fn push_key(events: &mut Vec<Event>) -> anyhow::Result<()>
     let mut frame = [0; 56];
     let length = pack_key::<Ccm<Aes128>>(&KEK, &KEY_IV, &packet, &mut frame)?;
     push_frame(events, &frame[..length])?;
-    Ok(())
-}
-
-// Adds the calls that send a mass erase; without memory for them nothing is added.
-fn push_erase(events: &mut Vec<Event>) -> anyhow::Result<()>
-    ensures all { OnOk result (events.new.items ≡ events.old.items ++ erase_calls) }
-    ensures none { OnErr result (events.new.items ≡ events.old.items) }
-{
-    let mut frame = [0; 6];
-    if write_frame(&mut frame, &[0x15]).is_none() {
-        return Err(anyhow!("no frame"));
-    }
-    push_frame(events, &frame)?;
     Ok(())
 }
 

@@ -1,7 +1,10 @@
 // A sweep: the power of a board is cut at one storing step after the other.
-ghost use Rattle.std.specs.Prelude.{◌≡◌, ◌⊎◌, true, false, length, Some};
+ghost use Rattle.std.specs.Prelude.{◌≡◌, ◌≢◌, ◌⊎◌, true, false, length, Some};
 ghost use Rattle.rules.specs.declared.Boot.TheVariants.{Application};
 ghost use Rattle.sweep.specs.Programs.{WholeProgram};
+ghost use Rattle.sweep.specs.Tallies.{said_nothing};
+
+mod steps;
 
 use crate::counts::Counts;
 use crate::kind::Kind;
@@ -24,6 +27,20 @@ pub struct Report {
 }
 
 impl Report {
+    // No cut was made yet of a plan of so many steps.
+    fn new(steps: u32) -> Report
+        ensures { result ≡ record { steps = steps; cuts = 0; gone = said_nothing; back = said_nothing; again = said_nothing; half = 0 } }
+    {
+        Report {
+            steps,
+            cuts: 0,
+            gone: Tally::empty(),
+            back: Tally::empty(),
+            again: Tally::empty(),
+            half: 0,
+        }
+    }
+
     pub fn counts(&self) -> Counts
         ensures { result ≡ record { cuts = self.now.cuts; half = self.now.half } }
     {
@@ -48,7 +65,8 @@ pub struct Images {
 
 // Whether an image is one of two.
 fn is_either(image: &[u8], first: &[u8], second: &[u8]) -> bool
-    ensures { result ≡ true → (image.now ≡ first.now) ⊎ (image.now ≡ second.now) }
+    ensures one { result ≡ true → (image.now ≡ first.now) ⊎ (image.now ≡ second.now) }
+    ensures neither { result ≡ false → (image.now ≢ first.now) × (image.now ≢ second.now) }
 {
     image == first || image == second
 }
@@ -58,6 +76,7 @@ impl Images {
     ghost use Rattle.rules.specs.declared.Boot.{Boot};
     ghost use Rattle.sweep.specs.Kinds.{board_of_kind};
     ghost use Rattle.sweep.specs.Sweeps.{back_said, gone_said, NoHalf};
+    ghost use Rattle.sweep.specs.Swept.{SameImages};
     ghost use Rattle.sweep.specs.Tallies.{tallied};
 
     // The images of a kind, with the old program's in the board's place.
@@ -84,8 +103,9 @@ impl Images {
     }
 
     // How many storing steps the calls of a plan take on the old program.
-    pub(crate) fn steps_of(&mut self, heap: Global, plan: &Plan) -> anyhow::Result<u32>
-        ensures { IfOk result (λ steps. steps ≤ 1000000) }
+    fn steps_of(&mut self, heap: Global, plan: &Plan) -> anyhow::Result<u32>
+        ensures most { IfOk result (λ steps. steps ≤ 1000000) }
+        ensures kept { SameImages self.old self.new }
     {
         self.image.copy_from_slice(&self.earlier);
         self.kind
@@ -95,7 +115,8 @@ impl Images {
     // Whether a board that said this boots a half program: it says that there is an application, and the image is neither the old program's,
     // nor what stood there before with the new program laid over. What stands there now is what stood there before the next.
     fn boots_half(&mut self, said: Option<Boot>) -> bool
-        ensures half { result ≡ false → said ≡ Some Application → WholeProgram self.old.earlier.items self.old.later.items self.old.stood.items self.old.image.items }
+        ensures whole { result ≡ false → said ≡ Some Application → WholeProgram self.old.earlier.items self.old.later.items self.old.stood.items self.old.image.items }
+        ensures half { result ≡ true → (said ≡ Some Application) × (WholeProgram self.old.earlier.items self.old.later.items self.old.stood.items self.old.image.items → ⊥) }
         ensures stood { self.new.stood.items ≡ self.old.image.items }
         ensures kept { (self.new.kind ≡ self.old.kind) × (self.new.held ≡ self.old.held) × (self.new.earlier.items ≡ self.old.earlier.items) × (self.new.later.items ≡ self.old.later.items) × (self.new.image.items ≡ self.old.image.items) }
     {
@@ -106,15 +127,16 @@ impl Images {
     }
 
     // Cuts the power at a step of a plan, and notes what the board says; without memory for it nothing is noted.
-    pub(crate) fn cut(
+    fn cut(
         &mut self,
         heap: Global,
         plan: &Plan,
         step: u32,
         report: &mut Report,
     ) -> anyhow::Result<()>
-        ensures kept { (self.new.kind ≡ self.old.kind) × (self.new.held ≡ self.old.held) × (self.new.earlier.items ≡ self.old.earlier.items) × (self.new.later.items ≡ self.old.later.items) }
+        ensures kept { SameImages self.old self.new }
         ensures none { OnErr result (report.new ≡ report.old) }
+        ensures steps { report.new.steps ≡ report.old.steps }
         ensures cuts { OnOk result (report.new.cuts ≡ min (report.old.cuts + 1) 0xFFFFFFFF) }
         ensures gone { OnOk result (report.new.gone ≡ tallied (gone_said step plan.now.cut.items (board_of_kind self.old.kind self.old.earlier.items self.old.held)) step report.old.gone) }
         ensures back { OnOk result (report.new.back ≡ tallied (back_said step plan.now.cut.items (board_of_kind self.old.kind self.old.earlier.items self.old.held)) step report.old.back) }

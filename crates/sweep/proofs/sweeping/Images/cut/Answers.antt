@@ -21,7 +21,7 @@ returns-else-half_again-clause-again c =
       c.note-3.ensures,
       λ _ _. record {
         between = m.stood.items;
-        back_whole = λ e. whole_at s.earlier.items s.later.items c.copy_from_slice-2.new.self.items _ s.earlier.items s.later.items s.earlier.items m.stood.items refl refl stood (sym a.stood) (a.half c.if-half.false (back ∙ e));
-        again_whole = λ e. whole_at m.earlier.items m.later.items m.stood.items _ s.earlier.items s.later.items m.stood.items _ a.kept.2 a.kept.3 refl (sym b.kept.4) (b.half c.if-half_again.false e);
+        back_whole = λ e. whole_at s.earlier.items s.later.items c.copy_from_slice-2.new.self.items _ s.earlier.items s.later.items s.earlier.items m.stood.items refl refl stood (sym a.stood) (a.whole c.if-half.false (back ∙ e));
+        again_whole = λ e. whole_at m.earlier.items m.later.items m.stood.items _ s.earlier.items s.later.items m.stood.items _ a.kept.2 a.kept.3 refl (sym b.kept.4) (b.whole c.if-half_again.false e);
       },
     )
