@@ -21,20 +21,20 @@ abbrev pub line_outcome : Cipher → State → Result Event Fault → Outcome
 line_outcome C s (Ok e) = step C s e
 line_outcome C s (Err f) = record { state = s; answer = refuses f [] }
 
--- an outcome more, with its row
+-- after one more outcome, with its row
 abbrev pub with_outcome : Outcome → Reached → Reached
 with_outcome o r = record { state = o.state; number = next_number r.number; rows = r.rows ++ row r.number o.answer }
 
--- one line more
+-- after one more line
 abbrev pub with_line : Cipher → List ℕ → Reached → Reached
 with_line C line r = with_outcome (line_outcome C r.state (line_event line)) r
 
--- a list of calls more
+-- after more calls
 abbrev pub with_calls : Cipher → List Event → Reached → Reached
 with_calls C es r =
     let given = answers (history C r.state es) in record { state = run C r.state es; number = number_behind r.number given; rows = r.rows ++ rows_from r.number given }
 
--- how far a bench has come, the calls that wait counted in
 module _ {M C : Type 0} where
+  -- how far a bench has come, the calls that wait counted in
   abbrev pub reached_by : Cipher → Bench M C → Reached
   reached_by K b = with_calls K b.events.items (record { state = b.board; number = b.number; rows = b.rows.items })

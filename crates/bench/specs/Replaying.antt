@@ -1,4 +1,4 @@
--- What a listing prints.
+-- Rows for answers and their numbers, and what a replay of calls leaves and promises.
 use Rattle.std.specs.Prelude.{◌≡◌, ℕ, ◌+◌, ◌%◌, List, [], ◌∷◌, ◌++◌}
 use Rattle.cipher.specs.Cipher.{Cipher}
 use Rattle.rules.specs.declared.Event.{Event}
@@ -16,12 +16,12 @@ abbrev pub rows_from : ℕ → List Answer → List ℕ
 rows_from n [] = []
 rows_from n (a ∷ rest) = row n a ++ rows_from (next_number n) rest
 
--- the number of the event behind as many
+-- the next number, after a row for each answer
 abbrev pub number_behind : ℕ → List Answer → ℕ
 number_behind n [] = n
 number_behind n (a ∷ rest) = number_behind (next_number n) rest
 
--- Rows were printed behind others, numbered from n on, and m is the number behind the last.
+-- A row for each answer was appended to old, numbered from n on; m is the number after the last.
 pub record Printed (n : ℕ) (given : List Answer) (old new : List ℕ) (m : ℕ) : Type 0 where
   pub rows : new ≡ old ++ rows_from n given
   pub number : m ≡ number_behind n given

@@ -40,7 +40,7 @@ fn replay_input<M: Memory + Drop, C: PacketCipher>(
     let mut bench = Bench::new(rt.alloc(), board);
     let mut input = BufReader::new(rt.alloc(), rt.stdin())?;
     let mut line = Vec::new(rt.alloc());
-    // Not over the reader's lines: they would end in the bytes behind the last line end, which are none.
+    // Not the reader's lines(): it would also yield bytes after the last line end.
     for _ in 0..u64::MAX {
         if !next_line(&mut input, &mut line)? {
             break;

@@ -9,18 +9,18 @@ use memory::Memory;
 use rules::Event;
 use std::alloc::{AllocError, Global};
 
-// The number of the event behind one; events are numbered modulo 1,000,000.
+// The number of the event after one; events are numbered modulo 1,000,000.
 pub fn number_after(number: u64) -> u64
     ensures { result ≡ next_number number }
 {
     (number % 1_000_000 + 1) % 1_000_000
 }
 
-// Appends a row for each answer, numbered from `number` on, and says the number behind the last.
+// Appends a row for each answer, numbered from `number` on, and says the number after the last.
 fn write_rows(rows: &mut Vec<u8>, number: u64, answers: &[Answer]) -> Result<u64, AllocError>
     ensures { IfOk result (Printed number answers.now rows.old.items rows.new.items) }
 {
-    // Carried along, since numbers begin again at 1,000,000, and the one behind the last is the result.
+    // Carried along, since numbers begin again at 1,000,000, and the one after the last is the result.
     let mut next = number;
     for answer in answers {
         write_row(rows, next, answer.refusal(), answer.boot(), answer.sent())?;
@@ -29,7 +29,7 @@ fn write_rows(rows: &mut Vec<u8>, number: u64, answers: &[Answer]) -> Result<u64
     Ok(next)
 }
 
-// Makes the calls on the board, appends a row for each, numbered from `number` on, and says the number behind the last.
+// Makes the calls on the board, appends a row for each, numbered from `number` on, and says the number after the last.
 pub fn replay<M: Memory, C: PacketCipher>(
     heap: Global,
     board: &mut Board<M, C>,

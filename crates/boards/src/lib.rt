@@ -1,7 +1,7 @@
-#![tactic(auto)]
-
 // Examples of a board's calls, with both ciphers, over the lent image and over a scrambler. The expected answers are worked out
 // by hand from the rules; those of a whole listing are in the program bench.
+#![tactic(auto)]
+
 #[cfg(test)]
 mod tests {
     use board::{Board, ByteAnswer};
@@ -58,7 +58,7 @@ mod tests {
         last
     }
 
-    // The boot answer by its number, for the same reason.
+    // The boot answer by its number, as it was worked out.
     fn boots<M: Memory, C: PacketCipher>(
         rt: &impl Abort,
         board: &mut Board<M, C>,

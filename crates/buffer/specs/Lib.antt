@@ -1,1 +1,2 @@
+-- What the array of a buffer holds: the bytes in use, then zeros.
 pub mod Padded

@@ -1,7 +1,7 @@
 -- Bytes in use at the front of an array, with zeros behind them.
 use Rattle.std.specs.Prelude.{◌≡◌, ℕ, ◌-◌, ◌≤◌, List, ◌++◌, length, take, replicate, min}
 
--- how many bytes there is room for in n
+-- how many bytes a buffer of n bytes can hold: its count has two bytes
 abbrev pub room : ℕ → ℕ
 room n = min n 0xFFFF
 

@@ -74,7 +74,7 @@ fn story<M: Memory + Drop>(rt: &HostRuntime, memory: M, frames: &[Frame]) -> any
     ask(rt, &mut board)
 }
 
-// Writes the frames to a file, one behind the other, as they go over the wire.
+// Writes the frames to a file, one after the other, as they go over the wire.
 fn write_frames(rt: &HostRuntime, path: &str, frames: &[Frame]) -> anyhow::Result<()> {
     let mut file = File::create(rt, path)?;
     for frame in frames {

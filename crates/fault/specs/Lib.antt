@@ -1,2 +1,3 @@
+-- What each refusal says, and checks in their order.
 pub mod Refusals
 pub mod Checks

@@ -6,6 +6,7 @@ use Rattle.fault.specs.declared.Fault.TheVariants.{BadNumber, MayNotOpen, OutOfT
 use Rattle.fault.specs.declared.Layer.{Layer}
 use Rattle.fault.specs.declared.Layer.TheVariants.{Call, Memory, Frame, Command, Cipher, Session, Keys}
 
+-- what a refusal says: its number, the layer that refused, the place of what was refused
 pub record Refusal : Type 0 where
   pub number : ℕ
   pub layer : Layer

@@ -46,13 +46,13 @@ pub enum Fault {
     Dark,
     // The image has not as many bytes as the map.
     ImageSize,
-    // A data packet has 1 to 256 data bytes.
+    // The data count is not 1 to 256.
     DataCount,
     // The output is too short for the frame.
     OutputShort,
     // The address is outside the map, or of more than three bytes.
     OutsideMap,
-    // The line is none of the listing's.
+    // A malformed line of a listing.
     BadLine,
     UnknownCommand(u8),
     // The length of a packet's core command.
@@ -61,7 +61,7 @@ pub enum Fault {
     BadIv(u8),
     // No contents seal to the body.
     NotOpened,
-    // A packet number that no update has.
+    // PN 0, NP 0, or PN above NP; the place is PN.
     BadNumber(u16),
     // Packet number 1, of an update that may not open.
     MayNotOpen(u16),
@@ -83,7 +83,7 @@ pub enum Fault {
 }
 
 impl Fault {
-    // The number of the refusal: a name says what the number is, which a From would not.
+    // The number of the refusal.
     pub fn number(&self) -> u8
         ensures { result ≡ (refusal self.now).number }
     {

@@ -30,6 +30,6 @@ row number a =
     right_justified 6 (number % 1000000)
     ++ (right_justified 4 (refusal_number a.refusal) ++ (in_four_columns (said_number a.said) ++ (in_four_columns a.sent ++ 0x0A ∷ [])))
 
--- The answer of its parts.
+-- the answer made of these parts
 abbrev pub answer_of : Option Fault → Option Boot → List ℕ → Answer
 answer_of f b bs = record { refusal = f; sent = bs; said = b }

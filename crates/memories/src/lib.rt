@@ -1,7 +1,7 @@
-#![tactic(auto)]
-
 // Storing steps, reads and power cuts, the same over the lent image, the scrambler, and a scrambler over a scrambler. What each
 // must answer was computed by a second model of a memory.
+#![tactic(auto)]
+
 #[cfg(test)]
 mod tests {
     use fault::Fault;
@@ -184,7 +184,7 @@ mod tests {
         shows(rt, m, 0x10001, 0x43)
     }
 
-    // The first step of a mass erase blanks the vector; cut behind 64 steps, the erase has reached the lower area.
+    // The first step of a mass erase blanks the vector; cut after 64 steps, the erase has reached the lower area.
     fn erase_cut<M: Memory>(rt: &impl Abort, m: &mut M) -> Result<(), Fail> {
         m.set_supply(Supply::Steps(1));
         answers(rt, mass_erase(m), 3);

@@ -12,7 +12,7 @@ holds x a = nat_le x.first a && nat_le a x.last
 abbrev pub size : Area → ℕ
 size x = (x.last + 1) - x.first
 
--- the last address of an area that an erase blanks: the vector, 0xFFFE and 0xFFFF, is not among them
+-- the last address of an area that a mass erase blanks byte by byte: the reset vector is left out, since it is blanked before, as one step
 abbrev pub erase_last : Area → ℕ
 erase_last x = cond (holds x 0xFFFE) 0xFFFD x.last
 

@@ -3,9 +3,9 @@ use Rattle.std.specs.Prelude.{◌≡◌, ℕ, Ok, Err, Result, ◌≢◌}
 use Rattle.fault.specs.declared.Fault.{Fault}
 use Rattle.memory.specs.Meaning.{Meaning, read_of}
 
--- a store of v at an address between two meanings, with its answer
+-- storing v at address a and reading it back: the meanings before and after, and the answer
 pub record StoredBack (a v : ℕ) (before after : Meaning) (r : Result ℕ Fault) : Type 0 where
-  -- the address reads as the value
+  -- if it succeeds, the address reads as the value
   pub there : (w : ℕ) → r ≡ Ok w → read_of after.contents a ≡ Ok v
   -- every other address reads as before
   pub elsewhere : (b : ℕ) → (b ≢ a) → read_of after.contents b ≡ read_of before.contents b

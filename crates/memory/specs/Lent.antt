@@ -20,6 +20,6 @@ lent_meaning s = meaning_of s.image.now s.held s.supply
 abbrev pub lent : Result LentImage Fault → Result Meaning Fault
 lent r = result_map_both lent_meaning (λ f. f) r
 
--- it is as long as the map
+-- a lent image is as long as the map
 pub lent_long : (s : LentImage) → length (lent_meaning s).contents.image ≡ map_size
 lent_long s = s.long

@@ -1,3 +1,4 @@
+-- The map, the held record and the supply, what a memory means, and what storing steps make of it.
 pub mod Areas
 pub mod Held
 pub mod Supply

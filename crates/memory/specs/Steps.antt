@@ -26,7 +26,7 @@ unfoldable pub blanks : ℕ → ℕ → List Step
 blanks a zero = []
 blanks a (suc n) = store a 0xFF ∷ blanks (a + 1) n
 
--- blanks from where on something is erased, if it is, to a last address
+-- the blanks from a first address, if there is one, to a last
 abbrev pub blanks_to : ℕ → Option ℕ → List Step
 blanks_to last None = []
 blanks_to last (Some first) = blanks first ((last + 1) - first)
@@ -35,7 +35,7 @@ blanks_to last (Some first) = blanks first ((last + 1) - first)
 abbrev pub erased : Area → List Step
 erased x = blanks_to (erase_last x) x.erase
 
--- an area's part in the round over what holds the vector, or in the round over the rest
+-- what a mass erase blanks of an area in its first round (true: the area of the vector) or its second (the others)
 abbrev pub round : Bool → Area → List Step
 round true x = cond (holds x 0xFFFE) (erased x) []
 round false x = cond (holds x 0xFFFE) [] (erased x)

@@ -8,7 +8,7 @@ use fault::Fault;
 pub struct Area {
     pub first: u32,
     pub last: u32,
-    // From where on it is erased, up to its last byte.
+    // From where on a mass erase blanks it, if it does: to its last byte, or to the byte before the reset vector.
     pub erase: Option<u32>,
 }
 
@@ -26,7 +26,7 @@ impl Area {
         (self.last as usize + 1).saturating_sub(self.first as usize)
     }
 
-    // The last address that an erase blanks: the vector is not among them.
+    // The last address that an erase blanks byte by byte; the vector is left out.
     pub(crate) fn erase_last(&self) -> u32
         ensures { result ≡ erase_last self.now }
     {

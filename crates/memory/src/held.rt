@@ -20,13 +20,13 @@ pub enum KeySlot {
 #[derive(Clone, Copy, PartialEq, Eq, Debug)]
 pub struct Held {
     pub version: u8,
-    // The mark, as in the rules: the version stands with it and without.
+    // The unfinished mark: set while an update is under way.
     pub unfinished: bool,
     pub keys: [KeyRecord; 2],
 }
 
 impl KeySlot {
-    // The slot's place in the key table; a name says what the number is, which a From would not.
+    // The slot's place in the key table.
     pub fn place(&self) -> usize
         ensures { result ≡ slot_place self.now }
     {
@@ -72,7 +72,7 @@ impl Held {
         }
     }
 
-    // Replaces one key record, which is lent; the other and the rest stay.
+    // Replaces the key record of a slot; the other one, version and mark stay.
     pub fn put_key(&mut self, slot: KeySlot, record: KeyRecord)
         ensures after { self.new ≡ held_key slot «record» self.old }
         ensures other { (k : ℕ) (d : KeyRecord) → (k ≢ slot_place slot) → slice_index_or self.new.keys k d ≡ slice_index_or self.old.keys k d }

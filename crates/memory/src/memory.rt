@@ -16,7 +16,7 @@ pub trait Memory {
     // Each memory owes that its image is as long as the map.
     ghost long: { (m : Self) → length (meaning m).contents.image ≡ map_size };
 
-    // None of these three changes the meaning: a plain fact of each, and no plainer under a name.
+    // None of these three changes what the memory means.
     fn read(&mut self, address: u32) -> Result<u8, Fault>
         ensures same { meaning self.new ≡ meaning self.old }
         ensures value { result ≡ read_of (meaning self.old).contents address };
@@ -29,19 +29,19 @@ pub trait Memory {
         ensures same { meaning self.new ≡ meaning self.old }
         ensures value { result ≡ (meaning self.old).supply };
 
-    // The storing steps: one byte,
+    // A storing step: one byte.
     fn store(&mut self, address: u32, value: u8) -> Result<(), Fault>
         ensures { Makes (store address value) (meaning self.old) (meaning self.new) result };
 
-    // both bytes of the reset vector,
+    // A storing step: both bytes of the reset vector.
     fn set_vector(&mut self, low: u8, high: u8) -> Result<(), Fault>
         ensures { Makes (set_vector low high) (meaning self.old) (meaning self.new) result };
 
-    // version and mark together, as two parameters, since a version stands without a mark everywhere but in the held record,
+    // A storing step: version and mark together; two parameters, since a version stands without a mark everywhere but in the held record.
     fn set_version(&mut self, number: u8, unfinished: bool) -> Result<(), Fault>
         ensures { Makes (set_version number unfinished) (meaning self.old) (meaning self.new) result };
 
-    // one key with its version.
+    // A storing step: one key with its version.
     fn set_key(&mut self, slot: KeySlot, record: KeyRecord) -> Result<(), Fault>
         ensures { Makes (set_key slot «record») (meaning self.old) (meaning self.new) result };
 

@@ -8,7 +8,7 @@ use crate::memory::Memory;
 use crate::supply::Supply;
 use fault::Fault;
 
-// What the byte at an address is kept XOR: the rule's own words, which a conversion would hide.
+// What the byte at an address is XORed with.
 fn mask_at(fixed: u8, address: u32) -> u8
     ensures { result ≡ mask fixed address }
 {

@@ -41,7 +41,7 @@ fn erase_area<M: Memory>(memory: &mut M, area: &Area) -> Result<(), Fault>
     Ok(())
 }
 
-// Blanks the vector, then the rest of its area, then the other areas: a walk over the map's areas from that of the vector on.
+// Blanks the vector, then the rest of its area, then the other areas in map order.
 pub fn mass_erase<M: Memory>(memory: &mut M) -> Result<(), Fault>
     ensures made { Performs erase_steps (M.meaning memory.old) (M.meaning memory.new) result }
     ensures written { EraseAsWritten }

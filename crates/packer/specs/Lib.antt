@@ -1,2 +1,3 @@
+-- The contents of packets, and what packing gives.
 pub mod Packets
 pub mod Packing

@@ -37,6 +37,6 @@ abbrev pub laid : Result (List ℕ) Fault → List ℕ → List ℕ
 laid (Ok f) out = over f out
 laid (Err e) out = out
 
--- the packet of the frame of n bytes at the front of a buffer opens to some contents
+-- the packet of the frame of n bytes at the front of a buffer opens to these contents
 abbrev pub OpensTo : Cipher → List ℕ → List ℕ → List ℕ → List ℕ → ℕ → Type 0
 OpensTo C key iv contents out n = C.opened key iv (take (n - 22) (drop 20 out)) ≡ Some contents

@@ -11,8 +11,7 @@ use cipher::PacketCipher;
 use fault::Fault;
 use wire::frame::enclose;
 
-// Bytes of the frame, of which a packer knows these two: the board's commands are an enum that stands above it, and one of its own here would
-// be no plainer.
+// The command bytes of the two kinds of packets.
 const DATA_COMMAND: u8 = 0x30;
 
 const KEY_COMMAND: u8 = 0x31;

@@ -1,6 +1,6 @@
+// The published vectors, as tests: FIPS 197, the authors' test cases for GCM, and the worked commands of the protocol guide.
 #![tactic(auto)]
 
-// The published vectors, as tests: FIPS 197, the authors' test cases for GCM, and the worked commands of the protocol guide.
 #[cfg(test)]
 mod tests {
     use cipher::{Aes128, BlockCipher, Ccm, Gcm, PacketCipher};

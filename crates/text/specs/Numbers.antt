@@ -6,7 +6,7 @@ use Rattle.std.specs.Char.{digit_value}
 abbrev pub among : ℕ → ℕ → ℕ → Bool
 among a z b = nat_le a b && nat_le b z
 
--- What follows of a value, and nothing where there is none.
+-- the bind of Option: f of a value, none without one
 abbrev pub and_then : {A B : Type 0} → Option A → (A → Option B) → Option B
 and_then None f = None
 and_then (Some x) f = f x

@@ -28,7 +28,7 @@ fn read_bytes(text: &[u8], bytes: &mut [u8]) -> Option<()>
     ensures { option_map (λ _. bytes.new) result ≡ hex_read text.now }
 {
     let (pairs, _) = text.as_chunks::<2>();
-    // By an index into one side: tried with `bytes.iter_mut()`, zipped, where a loop's invariant can't name what was written.
+    // By index: with iter_mut a loop's invariant can't name what was written.
     for (i, [high, low]) in pairs.iter().enumerate() {
         bytes[i] = hex_byte(*high, *low)?;
     }

@@ -5,7 +5,7 @@ ghost use Rattle.text.specs.Lines.{pair_text, separator, hex_lines};
 
 use std::fmt;
 
-// Bytes, one space between two of a line, and lines apart by a line's end; no text for no bytes.
+// One space between two bytes of a line, a line's end between two lines; no text for no bytes.
 #[derive(Clone, Copy)]
 pub struct HexLines<'a> {
     pub bytes: &'a [u8],

@@ -49,7 +49,7 @@ impl<'a> LentImage<'a> {
     }
 }
 
-// Its storing steps are no one function: each changes another part, and spends by a line of its own.
+// No helper for the storing steps: each changes another part and spends one step itself.
 impl Memory for LentImage<'_> {
     ghost meaning = { lent_meaning };
 
