@@ -1,4 +1,7 @@
 // Why the program fails. Its impls are written out, since `System` takes errors of several types, for each of which a derive wants a variant.
+ghost use Rattle.std.specs.Prelude.{◌≡◌};
+ghost use Rattle.pack.specs.declared.failure.Failure.TheVariants.{Refused};
+
 use crate::usage::{Argument, Form};
 use fault::Fault;
 use std::alloc::{AllocError, AllocFailed};
@@ -32,8 +35,10 @@ impl fmt::Display for Failure {
 }
 
 impl From<Fault> for Failure {
-    fn from(fault: Fault) -> Failure {
-        Failure::Refused(fault)
+    ghost from_gives = { λ refusal failure. failure ≡ Refused refusal };
+
+    fn from(refusal: Fault) -> Failure {
+        Failure::Refused(refusal)
     }
 }
 

@@ -1,7 +1,8 @@
 // Packs, prints what was packed and the frame, opens the frame again and says so.
-ghost use Rattle.std.specs.Prelude.{◌≡◌, ℕ, true, List, is_ok, IfOk, Some};
+ghost use Rattle.std.specs.Prelude.{◌≡◌, ℕ, true, List, is_ok, Ok, Some};
 ghost use Rattle.packer.specs.Packets.{data_contents, key_contents};
-ghost use Rattle.pack.specs.Report.{PacksData, PacksKey, OpensFrame, data_packet, key_packet};
+ghost use Rattle.packer.specs.Packing.{packed_data, packed_key};
+ghost use Rattle.pack.specs.Report.{OpensFrame, data_packet, framed, key_packet};
 
 use crate::arguments::{DataArguments, KeyArguments};
 use crate::failure::Failure;
@@ -91,7 +92,7 @@ fn key_packet(a: &KeyArguments) -> KeyPacket
 
 // The frame of the data packet that the arguments ask for.
 fn data_frame<C: PacketCipher>(a: &DataArguments, bytes: &[u8]) -> Result<Frame, Failure>
-    ensures { IfOk result (PacksData C.PacketCipher.cipher a.now bytes.entry) }
+    ensures { result ≡ framed (packed_data C.PacketCipher.cipher a.now.key a.now.iv (data_packet a.now bytes.entry) 304) }
 {
     let packet = data_packet(a, bytes);
     let mut out = [0; FRAME_MAX];
@@ -101,7 +102,7 @@ fn data_frame<C: PacketCipher>(a: &DataArguments, bytes: &[u8]) -> Result<Frame,
 
 // The frame of the key packet that the arguments ask for.
 fn key_frame<C: PacketCipher>(a: &KeyArguments) -> Result<Frame, Failure>
-    ensures { IfOk result (PacksKey C.PacketCipher.cipher a.now) }
+    ensures { result ≡ framed (packed_key C.PacketCipher.cipher a.now.kek a.now.iv (key_packet a.now) 304) }
 {
     let packet = key_packet(a);
     let mut out = [0; FRAME_MAX];
@@ -115,7 +116,7 @@ pub fn report_data<C: PacketCipher>(
     a: &DataArguments,
     bytes: &[u8],
 ) -> Result<(), Failure>
-    ensures { is_ok result ≡ true → (frame : List ℕ) × PacksData C.PacketCipher.cipher a.now bytes.entry frame × OpensFrame C.PacketCipher.cipher a.now.key a.now.iv frame (data_contents (data_packet a.now bytes.entry)) }
+    ensures { is_ok result ≡ true → (frame : List ℕ) × (packed_data C.PacketCipher.cipher a.now.key a.now.iv (data_packet a.now bytes.entry) 304 ≡ Ok frame) × OpensFrame C.PacketCipher.cipher a.now.key a.now.iv frame (data_contents (data_packet a.now bytes.entry)) }
 {
     let frame = data_frame::<C>(a, bytes)?;
     let frame = frame.as_slice();
@@ -136,7 +137,7 @@ pub fn report_data<C: PacketCipher>(
 
 // Packs a key packet and prints its frame; an error where a check refuses it.
 pub fn report_key<C: PacketCipher>(rt: &HostRuntime, a: &KeyArguments) -> Result<(), Failure>
-    ensures { is_ok result ≡ true → (frame : List ℕ) × PacksKey C.PacketCipher.cipher a.now frame × OpensFrame C.PacketCipher.cipher a.now.kek a.now.iv frame (key_contents (key_packet a.now)) }
+    ensures { is_ok result ≡ true → (frame : List ℕ) × (packed_key C.PacketCipher.cipher a.now.kek a.now.iv (key_packet a.now) 304 ≡ Ok frame) × OpensFrame C.PacketCipher.cipher a.now.kek a.now.iv frame (key_contents (key_packet a.now)) }
 {
     let frame = key_frame::<C>(a)?;
     let frame = frame.as_slice();

@@ -2,6 +2,7 @@ use Rattle.std.proofs.Common.{sym, ap, ◌∙◌, arith}
 use Rattle.buffer.proofs.Fronts.{front_whole}
 use Rattle.packer.specs.Packing.{packed_key}
 use Rattle.packer.specs.declared.packet.KeyPacket.{KeyPacket}
+use Rattle.pack.specs.Report.{framed}
 use Rattle.pack.proofs.Fronts.{packed_front}
 use Rattle.pack.proofs.report.key_frame.Goals as goal
 
@@ -10,5 +11,6 @@ returns g c =
     let n = c.in_ok-length.length in
     let e = c.in_ok-length.ensures in
     let a = c.args.a.now in
+    sym (ap framed (
     ap (λ (p : KeyPacket). packed_key g.C.PacketCipher.cipher a.kek a.iv p 304) (sym c.key_packet-packet.ensures)
-    ∙ packed_front _ n _ c.pack_key.new.out c.front.result e.answer e.out (c.front.ensures ∙ front_whole 304 n c.pack_key.new.out (omega arith))
+    ∙ packed_front _ n _ c.pack_key.new.out c.front.result e.answer e.out (c.front.ensures ∙ front_whole 304 n c.pack_key.new.out (omega arith))))
