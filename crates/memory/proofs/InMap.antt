@@ -1,12 +1,11 @@
 -- Which lists of steps keep to the map, and the steps of a mass erase written out.
-use Rattle.std.proofs.Common.{◌≡◌, ℕ, zero, suc, ◌+◌, ◌<◌, ◌≤◌, true, ◌&&◌, leb, List, [], ◌∷◌, ◌++◌, length, is_some, Some, None, Option, sym, refl, ap, ◌∙◌, inl, inr, arith}
-use Rattle.std.specs.List.{flat_map}
+use Rattle.std.proofs.Common.{◌≡◌, ℕ, zero, suc, ◌+◌, ◌<◌, ◌≤◌, Bool, true, false, ◌&&◌, leb, List, [], ◌∷◌, ◌++◌, length, is_some, Some, None, sym, refl, ap, ◌∙◌, inl, inr, arith}
 use Rattle.std.proofs.lemmas.List.{append-nil, length-append}
 use Rattle.std.proofs.lemmas.Bool.{and_from, and_parts, cases_Bool, cond-false, cond-true, le-leb}
 use Rattle.memory.specs.Areas.{all_areas, first_outside, place}
 use Rattle.memory.specs.Meaning.{Step, all_in_map, step_in_map}
 use Rattle.memory.specs.Meaning.Step.{set_vector}
-use Rattle.memory.specs.Steps.{blanks, erase_steps, erased, store_up, EraseAsWritten}
+use Rattle.memory.specs.Steps.{blanks, erase_steps, round_steps, store_up, EraseAsWritten}
 use Rattle.memory.specs.declared.areas.Area.{Area}
 use Rattle.memory.proofs.Places.{among, in_map}
 
@@ -43,21 +42,10 @@ held f l a h k = and_from _ _ (le-leb f a h) (le-leb a l k)
 
 -- the steps of a mass erase, written out
 pub as_written : EraseAsWritten
-unfolding erase_steps all_areas
+unfolding erase_steps round_steps all_areas
 as_written =
     ap (λ l. set_vector 255 255 ∷ (l ++ (blanks 0x4400 44032 ++ (blanks 0x10000 16384 ++ [])))) (append-nil (blanks 0xFFC0 62))
     ∙ ap (λ l. set_vector 255 255 ∷ (blanks 0xFFC0 62 ++ (blanks 0x4400 44032 ++ l))) (append-nil (blanks 0x10000 16384))
-
--- the areas as a mass erase takes them: table, info, lower, upper
-abbrev area : ℕ → ℕ → Option ℕ → Area
-area f l e = record { first = f; last = l; erase = e }
-
-abbrev pub erase_order : List Area
-erase_order =
-    area 0xFF80 0xFFFF (Some 0xFFC0) ∷ area 0x1800 0x19FF None ∷ area 0x4400 0xEFFF (Some 0x4400) ∷ area 0x10000 0x13FFF (Some 0x10000) ∷ []
-
-pub erase_opened : erase_steps ≡ set_vector 0xFF 0xFF ∷ flat_map erased erase_order
-erase_opened = as_written ∙ ap (λ l. set_vector 255 255 ∷ (blanks 0xFFC0 62 ++ (blanks 0x4400 44032 ++ l))) (sym (append-nil (blanks 0x10000 16384)))
 
 abbrev pub no_area : Area
 no_area = record { first = 0; last = 0; erase = None }
@@ -85,3 +73,9 @@ erase_count =
     let e = length-append (blanks 0xFFC0 62) (blanks 0x4400 44032 ++ blanks 0x10000 16384) in
     let f = length-append (blanks 0x4400 44032) (blanks 0x10000 16384) in
     ap length as_written ∙ omega arith
+
+-- so do both of its rounds
+pub rounds_in : (v : Bool) → all_in_map (round_steps v) ≡ true
+unfolding erase_steps
+rounds_in true = (append_parts (round_steps true) (round_steps false) erase_in).0
+rounds_in false = (append_parts (round_steps true) (round_steps false) erase_in).1

@@ -1,10 +1,12 @@
 -- What is left to do in a loop of steps, one turn on.
-use Rattle.std.proofs.Common.{◌≡◌, ℕ, suc, ◌+◌, ◌-◌, ◌<◌, ◌≤◌, true, ◌⊎◌, List, [], ◌∷◌, length, Some, None, Ok, Option, refl, ap, inl, inr, arith}
-use Rattle.std.proofs.lemmas.Bool.{and_parts}
-use Rattle.memory.specs.Areas.{refused_at}
+use mathlib.Core.Bool.{beq}
+use Rattle.std.proofs.Common.{◌≡◌, ℕ, suc, ◌+◌, ◌-◌, ◌<◌, ◌≤◌, Bool, true, false, ◌⊎◌, List, [], ◌∷◌, length, Some, None, Ok, Option, refl, ap, inl, inr, arith}
+use Rattle.std.proofs.lemmas.Bool.{and_parts, cond-false, cond-true, true≢false}
+use Rattle.memory.specs.Areas.{holds, refused_at}
 use Rattle.memory.specs.Meaning.{all_in_map}
 use Rattle.memory.specs.Meaning.Step.{store}
-use Rattle.memory.specs.Steps.{blanks, store_up}
+use Rattle.memory.specs.Steps.{blanks, round, store_up}
+use Rattle.memory.specs.declared.areas.Area.{Area}
 use Rattle.memory.proofs.Places.{map_below}
 
 -- what is left to store, one turn on: the address k and the byte v come, and the addresses from b on and the bytes ws stay
@@ -31,3 +33,10 @@ module _ (a l : ℕ) where
 pub unrefused : (o : Option ℕ) → refused_at o ≡ Ok tt → o ≡ None
 unrefused None e = refl
 unrefused (Some a) e = let z : ◌≡◌ {A = ℕ} 0 1 = cc in absurd (omega arith)
+
+-- of an area that is not of the round nothing is blanked
+pub round_passed : (v h : Bool) (x : Area) → holds x 0xFFFE ≡ h → beq h v ≡ false → round v x ≡ []
+round_passed true true x e n = absurd (true≢false n)
+round_passed true false x e n = cond-false _ _ _ e
+round_passed false true x e n = cond-true _ _ _ e
+round_passed false false x e n = absurd (true≢false n)

@@ -1,12 +1,11 @@
 -- What is stored is read back, and nothing else changes.
-use Rattle.std.proofs.Common.{◌≡◌, ℕ, ◌<◌, length, is_some, Some, None, Ok, Err, Option, Result, sym, refl, ap, ◌∙◌, inl, inr, arith}
+use Rattle.std.proofs.Common.{◌≡◌, ℕ, ◌<◌, length, is_some, Some, None, Ok, Err, Option, sym, refl, ap, ◌∙◌, inl, inr, arith}
 use Rattle.std.proofs.lemmas.List.{get_or-set_other, get_or-set_same}
 use Rattle.std.proofs.lemmas.Bool.{cases_Bool}
-use Rattle.fault.specs.Checks.{then}
 use Rattle.fault.specs.declared.Fault.{Fault}
 use Rattle.fault.specs.declared.Fault.TheVariants.{Dark, OutsideMap}
 use Rattle.memory.specs.Areas.{address_at, map_size, place}
-use Rattle.memory.specs.Laws.{StoredBack}
+use Rattle.memory.specs.Laws.{StoredBack, StoresAreReadBack}
 use Rattle.memory.specs.Meaning.{Contents, Meaning, after, answer, put_at, read_at, read_of, with_image}
 use Rattle.memory.specs.Meaning.Step.{store}
 use Rattle.memory.specs.Supply.{lit, spent}
@@ -34,23 +33,22 @@ module _ (a v : ℕ) (m : Meaning) where
   -- a refused store: the law asks nothing of the address
   unmade : (f : Fault) → StoredBack a v m m (Err f)
   unmade f = record {
-    there = λ w h. let z : ◌≡◌ {A = ℕ} 0 1 = cc in absurd (omega arith);
+    there = λ h. let z : ◌≡◌ {A = ℕ} 0 1 = cc in absurd (omega arith);
     elsewhere = λ b n. refl;
     same_held = refl;
     refused = λ e h. refl;
   }
 
   kept : (p : ℕ) → place a ≡ Some p → length m.contents.image ≡ map_size
-      → StoredBack a v m (record { contents = with_image (put_at (place a) v m.contents.image) m.contents; supply = spent m.supply }) (Ok v)
+      → StoredBack a v m (record { contents = with_image (put_at (place a) v m.contents.image) m.contents; supply = spent m.supply }) (Ok tt)
   kept p e l = record {
-    there = λ w h. put_there a v p m.contents e l;
+    there = λ h. put_there a v p m.contents e l;
     elsewhere = put_elsewhere a v p m.contents e;
     same_held = refl;
     refused = λ f h. let z : ◌≡◌ {A = ℕ} 0 1 = cc in absurd (omega arith);
   }
 
-  -- the law of the step, and of what is read after it
-  by_place : (o : Option ℕ) → place a ≡ o → length m.contents.image ≡ map_size → StoredBack a v m (after (store a v) m) (then (answer (store a v) m) (Ok v))
+  by_place : (o : Option ℕ) → place a ≡ o → length m.contents.image ≡ map_size → StoredBack a v m (after (store a v) m) (answer (store a v) m)
   by_place None e l =
       let q = outside (store a v) m _ refl (ap is_some e) in
       rw (← q.after, ← q.value) (unmade OutsideMap)
@@ -60,9 +58,6 @@ module _ (a v : ℕ) (m : Meaning) where
         | inr t ↦ let q = dark (store a v) m (ap is_some e) t in rw (← q.after, ← q.value) (unmade Dark)
       ]
 
-  pub stored_back : length m.contents.image ≡ map_size → (n : Meaning) (r : Result ℕ Fault)
-      → n ≡ after (store a v) m → r ≡ then (answer (store a v) m) (Ok v) → StoredBack a v m n r
-  stored_back l n r e h = rw (e, h) (by_place (place a) refl l)
-
-  pub stored_read : length m.contents.image ≡ map_size → answer (store a v) m ≡ Ok tt → read_of (after (store a v) m).contents a ≡ Ok v
-  stored_read l h = (by_place (place a) refl l).there v (ap (λ r. then r (Ok v)) h)
+-- the law of any memory whose image is as long as the map
+pub stores_are_read_back : (m : Meaning) → length m.contents.image ≡ map_size → StoresAreReadBack m
+stores_are_read_back m l a v = by_place a v m (place a) refl l

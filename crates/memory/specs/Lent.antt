@@ -1,7 +1,5 @@
 -- What a lent image means.
-use Rattle.std.specs.Prelude.{◌≡◌, ℕ, List, Result, length}
-use Rattle.std.specs.Result.{result_map_both}
-use Rattle.fault.specs.declared.Fault.{Fault}
+use Rattle.std.specs.Prelude.{◌≡◌, ℕ, List, length}
 use Rattle.memory.specs.Areas.{map_size}
 use Rattle.memory.specs.Meaning.{Meaning}
 use Rattle.memory.specs.declared.held.Held.{Held}
@@ -15,10 +13,6 @@ meaning_of xs h u = record { contents = record { image = xs; held = h }; supply 
 -- what a lent image means
 abbrev pub lent_meaning : LentImage → Meaning
 lent_meaning s = meaning_of s.image.now s.held s.supply
-
--- what lending an image gives: a memory of that meaning, or a refusal
-abbrev pub lent : Result LentImage Fault → Result Meaning Fault
-lent r = result_map_both lent_meaning (λ f. f) r
 
 -- a lent image is as long as the map
 pub lent_long : (s : LentImage) → length (lent_meaning s).contents.image ≡ map_size

@@ -40,9 +40,13 @@ abbrev pub round : Bool → Area → List Step
 round true x = cond (holds x 0xFFFE) (erased x) []
 round false x = cond (holds x 0xFFFE) [] (erased x)
 
+-- all that it blanks in a round, walking the areas of the map
+unfoldable pub round_steps : Bool → List Step
+round_steps vector = flat_map (round vector) all_areas
+
 -- a mass erase: the vector, the rest of its area, the other areas
 unfoldable pub erase_steps : List Step
-erase_steps = set_vector 0xFF 0xFF ∷ (flat_map (round true) all_areas ++ flat_map (round false) all_areas)
+erase_steps = set_vector 0xFF 0xFF ∷ (round_steps true ++ round_steps false)
 
 -- the same, written out: the vector, 0xFFC0 to 0xFFFD, lower, upper
 abbrev pub EraseAsWritten : Type 0

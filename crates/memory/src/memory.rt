@@ -1,22 +1,22 @@
-// The interface of a memory, and its law over any memory.
-ghost use Rattle.std.specs.Prelude.{◌≡◌, length, Ok};
-ghost use Rattle.fault.specs.Checks.{then};
+// The interface of a memory, and above it that of a memory with its power.
+ghost use Rattle.std.specs.Prelude.{◌≡◌, length};
 ghost use Rattle.memory.specs.Areas.{map_size};
-ghost use Rattle.memory.specs.Meaning.{Makes, Meaning, read_of, answer, after, with_supply};
+ghost use Rattle.memory.specs.Meaning.{Makes, Meaning, read_of, with_supply};
 ghost use Rattle.memory.specs.Meaning.Step.{store, set_vector, set_version, set_key};
-ghost use Rattle.memory.specs.Laws.{StoredBack};
 
 use crate::held::{Held, KeyRecord, KeySlot};
 use crate::supply::Supply;
 use fault::Fault;
 
+// A memory to read from and to store to. Whoever has no more than this can neither ask for the supply nor set it: that a step was not kept,
+// by the refusal 3, is all that it learns of the power.
 pub trait Memory {
     ghost meaning: { Self → Meaning };
 
     // Each memory owes that its image is as long as the map.
     ghost long: { (m : Self) → length (meaning m).contents.image ≡ map_size };
 
-    // None of these three changes what the memory means.
+    // Neither of these two changes what the memory means.
     fn read(&mut self, address: u32) -> Result<u8, Fault>
         ensures same { meaning self.new ≡ meaning self.old }
         ensures value { result ≡ read_of (meaning self.old).contents address };
@@ -24,10 +24,6 @@ pub trait Memory {
     fn record(&mut self) -> Held
         ensures same { meaning self.new ≡ meaning self.old }
         ensures value { result ≡ (meaning self.old).contents.held };
-
-    fn supply(&mut self) -> Supply
-        ensures same { meaning self.new ≡ meaning self.old }
-        ensures value { result ≡ (meaning self.old).supply };
 
     // A storing step: one byte.
     fn store(&mut self, address: u32, value: u8) -> Result<(), Fault>
@@ -44,17 +40,15 @@ pub trait Memory {
     // A storing step: one key with its version.
     fn set_key(&mut self, slot: KeySlot, record: KeyRecord) -> Result<(), Fault>
         ensures { Makes (set_key slot «record») (meaning self.old) (meaning self.new) result };
-
-    fn set_supply(&mut self, supply: Supply)
-        ensures after { meaning self.new ≡ with_supply supply (meaning self.old) };
 }
 
-// Stores a byte and reads it back, over any memory.
-pub fn store_and_read<M: Memory>(memory: &mut M, address: u32, value: u8) -> Result<u8, Fault>
-    ensures after { M.meaning memory.new ≡ after (store address value) (M.meaning memory.old) }
-    ensures value { result ≡ then (answer (store address value) (M.meaning memory.old)) (Ok value) }
-    ensures law { StoredBack address value (M.meaning memory.old) (M.meaning memory.new) result }
-{
-    memory.store(address, value)?;
-    memory.read(address)
+// A memory whose supply can be asked for and set: for the power-up, and for tests and tools that cut the power. On a device it has no calls
+// at all, since there the supply is the power itself, which no code reads.
+pub trait Powered: Memory {
+    fn supply(&mut self) -> Supply
+        ensures same { Self.Memory.meaning self.new ≡ Self.Memory.meaning self.old }
+        ensures value { result ≡ (Self.Memory.meaning self.old).supply };
+
+    fn set_supply(&mut self, supply: Supply)
+        ensures after { Self.Memory.meaning self.new ≡ with_supply supply (Self.Memory.meaning self.old) };
 }

@@ -4,7 +4,7 @@ ghost use Rattle.memory.specs.Scrambled.{clear_long, clear_meaning, mask};
 
 use crate::areas::{VECTOR_HIGH, VECTOR_LOW};
 use crate::held::{Held, KeyRecord, KeySlot};
-use crate::memory::Memory;
+use crate::memory::{Memory, Powered};
 use crate::supply::Supply;
 use fault::Fault;
 
@@ -17,8 +17,25 @@ fn mask_at(fixed: u8, address: u32) -> u8
 
 #[derive(Drop)]
 pub struct Scrambler<M: Memory> {
-    pub below: M,
-    pub fixed: u8,
+    below: M,
+    fixed: u8,
+}
+
+impl<M: Memory> Scrambler<M> {
+    // A scrambler over a memory, whose fixed byte stays the same.
+    pub fn over(below: M, fixed: u8) -> Scrambler<M>
+        ensures { clear_meaning result.fixed (M.Memory.meaning result.below) ≡ clear_meaning fixed (M.Memory.meaning below) }
+    {
+        Scrambler { below, fixed }
+    }
+
+    // The memory below, which keeps the scrambled bytes.
+    pub fn into_below(self) -> M
+        ensures { result ≡ self.below }
+    {
+        let Scrambler { below, fixed: _ } = self;
+        below
+    }
 }
 
 impl<M: Memory> Memory for Scrambler<M> {
@@ -33,10 +50,6 @@ impl<M: Memory> Memory for Scrambler<M> {
 
     fn record(&mut self) -> Held {
         self.below.record()
-    }
-
-    fn supply(&mut self) -> Supply {
-        self.below.supply()
     }
 
     fn store(&mut self, address: u32, value: u8) -> Result<(), Fault> {
@@ -56,6 +69,12 @@ impl<M: Memory> Memory for Scrambler<M> {
 
     fn set_key(&mut self, slot: KeySlot, record: KeyRecord) -> Result<(), Fault> {
         self.below.set_key(slot, record)
+    }
+}
+
+impl<M: Powered> Powered for Scrambler<M> {
+    fn supply(&mut self) -> Supply {
+        self.below.supply()
     }
 
     fn set_supply(&mut self, supply: Supply) {

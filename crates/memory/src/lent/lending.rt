@@ -1,14 +1,13 @@
 // Lending an image, and the memory on it.
-ghost use Rattle.std.specs.Prelude.{◌≡◌, length, Ok, ◌==◌};
-ghost use Rattle.fault.specs.Checks.{check, then};
-ghost use Rattle.fault.specs.declared.Fault.TheVariants.{ImageSize};
+ghost use Rattle.std.specs.Prelude.{◌≡◌, length, is_some, IfSome, ◌==◌};
+ghost use Rattle.std.specs.Borrow.{sem, Array, LendsIf, u8};
 ghost use Rattle.memory.specs.Areas.{map_size};
-ghost use Rattle.memory.specs.Lent.{lent, lent_long, lent_meaning, meaning_of};
+ghost use Rattle.memory.specs.Lent.{lent_long, lent_meaning, meaning_of};
 
 use super::LentImage;
 use crate::areas::{MAP_SIZE, place_of};
 use crate::held::{Held, KeyRecord, KeySlot};
-use crate::memory::Memory;
+use crate::memory::{Memory, Powered};
 use crate::supply::Supply;
 use fault::Fault;
 
@@ -17,35 +16,35 @@ const LOW_PLACE: usize = 44670;
 
 const HIGH_PLACE: usize = 44671;
 
-// Refuses an image that is not as long as the map.
-pub fn sized(image: &[u8]) -> Result<(), Fault>
-    ensures { result ≡ check (length image.now == map_size) ImageSize }
+// The image as an array, to be lent whole; none where it is not as long as the map, which is the refusal `Fault::ImageSize`. It is
+// unchanged then.
+pub fn sized(image: &mut [u8]) -> Option<&mut [u8; MAP_SIZE]>
+    ensures* rests { sem 𝓛 (LendsIf (Array u8 0) (Array u8 0) image.entry result (λ left. left) image.old) }
+    ensures size { is_some result ≡ (length image.old == map_size) }
+    ensures value { IfSome result (λ whole. whole.now ≡ image.old) }
 {
-    if image.len() != MAP_SIZE {
-        return Err(Fault::ImageSize);
-    }
-    Ok(())
-}
-
-// A memory on an image that `sized` has passed.
-pub fn lend(image: &mut [u8], held: Held, supply: Supply) -> LentImage<'_>
-    requires { length image.old ≡ map_size }
-    ensures { lent_meaning result ≡ meaning_of image.old held supply }
-{
-    LentImage {
-        image,
-        held,
-        supply,
-    }
+    image.as_mut_array()
 }
 
 impl<'a> LentImage<'a> {
-    // A memory on an image; refuses one that is not as long as the map.
-    pub fn over(image: &'a mut [u8], held: Held, supply: Supply) -> Result<LentImage<'a>, Fault>
-        ensures { lent result ≡ then (check (length image.old == map_size) ImageSize) (Ok (meaning_of image.old held supply)) }
+    // A memory on an image, with a held record and a supply.
+    pub fn over(image: &'a mut [u8; MAP_SIZE], held: Held, supply: Supply) -> LentImage<'a>
+        ensures meaning { lent_meaning result ≡ meaning_of image.old held supply }
+        ensures reference { result.image.ghost_name ≡ image.entry.ghost_name }
     {
-        sized(image)?;
-        Ok(lend(image, held, supply))
+        LentImage {
+            image,
+            held,
+            supply,
+        }
+    }
+
+    // Takes the memory apart: the image that was lent, the held record and the supply.
+    pub fn into_parts(self) -> (&'a mut [u8; MAP_SIZE], Held, Supply)
+        ensures meaning { meaning_of result.0.now result.1 result.2 ≡ lent_meaning self.entry }
+        ensures reference { result.0.ghost_name ≡ self.entry.image.ghost_name }
+    {
+        (self.image, self.held, self.supply)
     }
 }
 
@@ -62,10 +61,6 @@ impl Memory for LentImage<'_> {
 
     fn record(&mut self) -> Held {
         self.held
-    }
-
-    fn supply(&mut self) -> Supply {
-        self.supply
     }
 
     fn store(&mut self, address: u32, value: u8) -> Result<(), Fault> {
@@ -93,6 +88,12 @@ impl Memory for LentImage<'_> {
         self.supply.spend()?;
         self.held.put_key(slot, record);
         Ok(())
+    }
+}
+
+impl Powered for LentImage<'_> {
+    fn supply(&mut self) -> Supply {
+        self.supply
     }
 
     fn set_supply(&mut self, supply: Supply) {
