@@ -1,14 +1,14 @@
 -- How far a receiver can be.
-use Rattle.std.specs.Prelude.{ℕ, Bool, true, ◌&&◌, nat_le, nat_lt}
+use Rattle.std.specs.Prelude.{ℕ, Bool, ◌&&◌, ◌==◌, nat_le, nat_lt}
 use Rattle.board.specs.declared.receiver.Progress.{Progress}
 use Rattle.board.specs.declared.receiver.Progress.TheVariants.{Idle, LengthLow, LengthHigh, Body, CheckLow, CheckHigh}
 
--- whether a receiver can have come this far with k bytes of a core command: a core command has 1 to 299 bytes, and fewer than its length
--- have been read in a body
+-- whether a receiver can have come this far with k bytes of a core command: none before its body; fewer than its length in the body, which has
+-- 1 to 299 bytes; and all of them behind it
 abbrev pub sound : Progress → ℕ → Bool
-sound Idle k = true
-sound LengthLow k = true
-sound (LengthHigh low) k = true
+sound Idle k = k == 0
+sound LengthLow k = k == 0
+sound (LengthHigh low) k = k == 0
 sound (Body n) k = nat_lt k n && nat_le n 299
 sound CheckLow k = nat_lt 0 k && nat_le k 299
 sound (CheckHigh low) k = nat_lt 0 k && nat_le k 299

@@ -1,5 +1,5 @@
 -- What a receiver means in the words of the rules, and what it answers to a byte.
-use Rattle.std.specs.Prelude.{ℕ, Bool, cond, List, Some, None, Ok, Err, Option, Result}
+use Rattle.std.specs.Prelude.{ℕ, List, Some, None, Ok, Err, Option, Result}
 use Rattle.fault.specs.declared.Fault.{Fault}
 use Rattle.rules.specs.Receiver as rules
 use Rattle.rules.specs.Receiver.Receiver.{idle, length_low, length_high, body, check_low, check_high}
@@ -34,13 +34,8 @@ answer_by (waits r) = Ok None
 answer_by (bad f) = Err f
 answer_by (good core) = Ok (Some core)
 
--- the same of whether a core command is there, with its bytes
-abbrev pub answer_with : Result Bool Fault → List ℕ → Result (Option (List ℕ)) Fault
-answer_with (Ok there) core = Ok (cond there (Some core) None)
-answer_with (Err f) core = Err f
-
 -- the same of what is handed out
 abbrev pub handed : Result (Option CoreCommand) Fault → Result (Option (List ℕ)) Fault
 handed (Ok None) = Ok None
-handed (Ok (Some core)) = Ok (Some core.buffer.now)
+handed (Ok (Some core)) = Ok (Some core.buffer)
 handed (Err f) = Err f

@@ -10,6 +10,10 @@ use Rattle.rules.specs.Promises.{Given, start}
 abbrev pub board_of : Working → Receiver → Bool → State
 board_of w h d = board_with w.memory h w.session d
 
+-- the memory of a board
+abbrev pub memory_of : State → Meaning
+memory_of s = record { contents = s.contents; supply = s.supply }
+
 -- the memory of a fresh board
 abbrev pub fresh_memory : Given → Meaning
-fresh_memory g = record { contents = (start g).contents; supply = (start g).supply }
+fresh_memory g = memory_of (start g)

@@ -3,7 +3,7 @@ ghost use Rattle.std.specs.Prelude.{◌≡◌};
 ghost use Rattle.rules.specs.declared.Session.TheVariants.{Closed};
 ghost use Rattle.rules.specs.Promises.{Given, start};
 ghost use Rattle.board.specs.Outcomes.{lit_board};
-ghost use Rattle.board.specs.State.{fresh_memory};
+ghost use Rattle.board.specs.State.{fresh_memory, memory_of};
 
 use crate::device::Device;
 use crate::receiver::Receiver;
@@ -42,5 +42,18 @@ impl<M: Memory, C: PacketCipher> Board<M, C> {
             dark: false,
             cipher: PhantomData,
         }
+    }
+
+    // The memory, taken out of the board as the calls left it.
+    pub fn into_memory(self) -> M
+        ensures { M.Memory.meaning result ≡ memory_of self }
+    {
+        let Board {
+            device,
+            receiver: _,
+            dark: _,
+            cipher: _,
+        } = self;
+        device.into_memory()
     }
 }

@@ -15,7 +15,7 @@ use crate::reply::{REPLY, Reply};
 use crate::work::{Guard, WORK};
 use cipher::PacketCipher;
 use fault::Fault;
-use memory::{Memory, Supply};
+use memory::{Memory, Powered, Supply};
 use rules::Boot;
 
 // Whether a call went dark.
@@ -113,7 +113,9 @@ impl<M: Memory, C: PacketCipher> Board<M, C> {
         self.check_power()?;
         Ok(self.device.boot())
     }
+}
 
+impl<M: Powered, C: PacketCipher> Board<M, C> {
     // The power comes on, with a supply.
     pub fn power_up(&mut self, supply: Supply)
         ensures { call_of self.new quiet ≡ step C.cipher self.old (PowerUp supply) }

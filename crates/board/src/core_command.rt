@@ -1,15 +1,14 @@
-// A core command that has arrived, read where it lies.
+// A core command that has arrived. It moves: what opens it or obeys it uses it up.
 ghost use Rattle.std.specs.Prelude.{◌≡◌, ◌<◌, ◌≤◌, length};
 ghost use Rattle.rules.specs.Commands.{alone, command};
 
 use buffer::Buffer;
 use rules::Command;
 
-// No model: with one, the receiver's lending of it gets no proof.
-#[derive(Clone, Copy)]
-pub struct CoreCommand<'a> {
-    pub(crate) buffer: &'a Buffer<299>,
-    ghost sized: { (0 < length buffer.now) × (length buffer.now ≤ 299) },
+#[derive(Drop)]
+pub(crate) struct CoreCommand {
+    pub(crate) buffer: Buffer<299>,
+    ghost sized: { (0 < length buffer) × (length buffer ≤ 299) },
 }
 
 // The command of a byte with nothing behind it.
@@ -24,17 +23,17 @@ fn alone(byte: u8) -> Command
     }
 }
 
-impl<'a> CoreCommand<'a> {
+impl CoreCommand {
     // Its bytes, of which there are 1 to 299.
-    pub fn bytes(&self) -> &'a [u8]
-        ensures bytes { result.now ≡ self.now.buffer.now }
-        ensures sized { (0 < length self.now.buffer.now) × (length self.now.buffer.now ≤ 299) }
+    pub(crate) fn bytes(&self) -> &[u8]
+        ensures bytes { result.now ≡ self.now.buffer }
+        ensures sized { (0 < length self.now.buffer) × (length self.now.buffer ≤ 299) }
     {
         self.buffer.as_slice()
     }
 
     pub(crate) fn command(&self) -> Command
-        ensures { result ≡ command self.now.buffer.now }
+        ensures { result ≡ command self.now.buffer }
     {
         match self.bytes() {
             [] => Command::Unknown(0),

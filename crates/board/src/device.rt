@@ -1,17 +1,17 @@
 // What a board works on while it obeys: its memory, and its session.
 ghost use Rattle.std.specs.Prelude.{◌≡◌};
-ghost use Rattle.memory.specs.Meaning.{with_supply};
 ghost use Rattle.rules.specs.Board.{boot};
 ghost use Rattle.rules.specs.declared.Session.TheVariants.{Closed};
 ghost use Rattle.board.specs.Outcomes.{works};
 
 use crate::boot::boot_of;
-use memory::{Memory, Supply};
+use memory::Memory;
 use rules::{Boot, Session};
 use std::marker::Model;
 
 mod erase;
 mod obey;
+mod power;
 mod take;
 
 #[derive(Drop)]
@@ -47,11 +47,11 @@ impl<M: Memory> Device<M> {
         boot_of(&mut self.memory)
     }
 
-    // The power comes on, with a supply; no session is left.
-    pub(crate) fn power_up(&mut self, supply: Supply)
-        ensures { self.new ≡ works (with_supply supply self.old.memory) Closed }
+    // The memory, taken out.
+    pub(crate) fn into_memory(self) -> M
+        ensures { M.Memory.meaning result ≡ self.memory }
     {
-        self.memory.set_supply(supply);
-        self.session = Session::Closed;
+        let Device { memory, session: _ } = self;
+        memory
     }
 }

@@ -21,5 +21,3 @@ mod work;
 
 pub use answer::{Answer, ByteAnswer};
 pub use board::Board;
-pub use core_command::CoreCommand;
-pub use receiver::Receiver;

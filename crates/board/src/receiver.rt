@@ -9,7 +9,7 @@ mod reading;
 
 // How far a frame has been read.
 #[derive(Clone, Copy)]
-pub enum Progress {
+pub(crate) enum Progress {
     Idle,
     LengthLow,
     // The length's low byte.
@@ -21,9 +21,9 @@ pub enum Progress {
     CheckHigh(u8),
 }
 
-// No model: with one, what `byte` lends gets no proof.
+// It holds no byte but those of a core command under way.
 #[derive(Drop)]
-pub struct Receiver {
+pub(crate) struct Receiver {
     progress: Progress,
     core: Buffer<299>,
     ghost sound: { sound progress (length core) ≡ true },

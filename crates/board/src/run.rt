@@ -9,11 +9,11 @@ use crate::board::Board;
 use crate::reply::REPLY;
 use crate::work::WORK;
 use cipher::PacketCipher;
-use memory::Memory;
+use memory::Powered;
 use rules::Event;
 use std::alloc::{AllocError, Global};
 
-impl<M: Memory, C: PacketCipher> Board<M, C> {
+impl<M: Powered, C: PacketCipher> Board<M, C> {
     // One call, with buffers of the lengths that the event names, cut to what any call needs.
     fn call(&mut self, event: Event, work: &mut [u8; WORK], reply: &mut [u8; REPLY]) -> Answer
         ensures { call_of self.new result ≡ step C.cipher self.old event }

@@ -6,7 +6,6 @@ ghost use Rattle.board.specs.States.{packet_in, packet_with};
 
 use super::Opened;
 use crate::contents::Contents;
-use crate::core_command::CoreCommand;
 use crate::sealed::SealedData;
 use crate::work::WORK;
 use cipher::PacketCipher;
@@ -30,17 +29,15 @@ impl Opened {
         }
     }
 
-    // Opens the packet in a core command into the work buffer, and reads its fields there.
+    // Opens the packet into the work buffer, and reads its fields there.
     pub(crate) fn open<C: PacketCipher>(
         sealed: SealedData,
-        core: CoreCommand,
         key: &[u8; 16],
         work: &mut [u8; WORK],
     ) -> Result<Opened, Fault>
-        requires { sealed.length ≡ length core.buffer.now }
-        ensures { with_work packet_in work.new result ≡ opened_by C.cipher fields key.now core.entry.buffer.now }
+        ensures { with_work packet_in work.new result ≡ opened_by C.cipher fields key.now sealed.core.buffer }
     {
-        let n = sealed.open::<C>(core, key, work)?;
+        let n = sealed.open::<C>(key, work)?;
         Ok(Opened::read(Contents::over(&work[..n])))
     }
 }

@@ -21,7 +21,7 @@ impl<M: Memory> Device<M> {
         core: CoreCommand,
         work: &mut [u8; WORK],
     ) -> Result<Reply, Fault>
-        ensures { obeyed self.new result ≡ enact (obey C.cipher (lit self.old) core.entry.buffer.now (command core.entry.buffer.now)) (lit self.old) }
+        ensures { obeyed self.new result ≡ enact (obey C.cipher (lit self.old) core.buffer (command core.buffer)) (lit self.old) }
     {
         match core.command() {
             Command::Data => {

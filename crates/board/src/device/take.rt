@@ -30,12 +30,12 @@ impl<M: Memory> Device<M> {
         core: CoreCommand,
         work: &mut [u8; WORK],
     ) -> Result<(), Fault>
-        ensures { packet_outcome self.new result ≡ enact (on_data (judge_data C.cipher (lit self.old) core.entry.buffer.now)) (lit self.old) }
+        ensures { packet_outcome self.new result ≡ enact (on_data (judge_data C.cipher (lit self.old) core.buffer)) (lit self.old) }
     {
         let sealed = SealedData::of(core)?;
         let held = self.memory.record();
         let key = key_of(&held, KeySlot::Data);
-        let opened = Opened::open::<C>(sealed, core, &key, work)?;
+        let opened = Opened::open::<C>(sealed, &key, work)?;
         let judged = opened.judge(&self.session, &held)?;
         self.session = Session::Closed;
         let stored = judged.store(&mut self.memory, work)?;
@@ -50,12 +50,12 @@ impl<M: Memory> Device<M> {
         core: CoreCommand,
         work: &mut [u8; WORK],
     ) -> Result<(), Fault>
-        ensures { packet_outcome self.new result ≡ enact (on_key (judge_key C.cipher (lit self.old) core.entry.buffer.now)) (lit self.old) }
+        ensures { packet_outcome self.new result ≡ enact (on_key (judge_key C.cipher (lit self.old) core.buffer)) (lit self.old) }
     {
         let sealed = SealedKey::of(core)?;
         let held = self.memory.record();
         let key = key_of(&held, KeySlot::Kek);
-        let opened = OpenedKey::open::<C>(sealed, core, &key, work)?;
+        let opened = OpenedKey::open::<C>(sealed, &key, work)?;
         let judged = opened.judge(&held)?;
         let current = self.session;
         self.session = Session::Closed;

@@ -5,24 +5,21 @@ ghost use Rattle.board.specs.Keys.{key_in};
 ghost use Rattle.board.specs.Opening.{with_work, opened_by};
 
 use super::OpenedKey;
-use crate::core_command::CoreCommand;
 use crate::sealed::SealedKey;
 use crate::work::WORK;
 use cipher::PacketCipher;
 use fault::Fault;
 
 impl OpenedKey {
-    // Opens the packet in a core command into the work buffer, and reads its fields there.
+    // Opens the packet into the work buffer, and reads its fields there.
     pub(crate) fn open<C: PacketCipher>(
         sealed: SealedKey,
-        core: CoreCommand,
         key: &[u8; 16],
         work: &mut [u8; WORK],
     ) -> Result<OpenedKey, Fault>
-        requires { sealed.length ≡ length core.buffer.now }
-        ensures { with_work key_in work.new result ≡ opened_by C.cipher key_fields key.now core.entry.buffer.now }
+        ensures { with_work key_in work.new result ≡ opened_by C.cipher key_fields key.now sealed.core.buffer }
     {
-        sealed.open::<C>(core, key, work)?;
+        sealed.open::<C>(key, work)?;
         Ok(OpenedKey {
             kt: work[0],
             kv: work[1],

@@ -7,7 +7,7 @@ use super::{Progress, Receiver};
 use buffer::Buffer;
 
 impl Receiver {
-    pub fn idle() -> Receiver
+    pub(crate) fn idle() -> Receiver
         ensures { receiver_of result ≡ idle }
     {
         Receiver {
@@ -17,9 +17,9 @@ impl Receiver {
     }
 
     // Makes it idle, as a silence does.
-    pub fn clear(&mut self)
+    pub(crate) fn clear(&mut self)
         ensures { receiver_of self.new ≡ idle }
     {
-        self.progress = Progress::Idle;
+        *self = Receiver::idle();
     }
 }

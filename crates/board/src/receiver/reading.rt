@@ -1,10 +1,7 @@
 // What one byte more makes of a receiver.
-ghost use Rattle.std.specs.Prelude.{◌≡◌, ◌<◌, ◌≤◌, length, true, IfOk};
-ghost use Rattle.std.specs.Borrow.{sem};
-ghost use Rattle.std.specs.Io.BufRead.{Rests};
+ghost use Rattle.std.specs.Prelude.{◌≡◌};
 ghost use Rattle.rules.specs.Receiver.{read};
-ghost use Rattle.board.specs.Reading.{left_by, answer_by, answer_with, handed, receiver_of};
-ghost use Rattle.board.specs.contracts.receiver.Receiver.{the_row};
+ghost use Rattle.board.specs.Reading.{left_by, answer_by, handed, receiver_of};
 
 use super::{Progress, Receiver};
 use crate::core_command::CoreCommand;
@@ -12,12 +9,10 @@ use fault::Fault;
 use wire::checksum::checksum;
 
 impl Receiver {
-    // Reads one byte more, and says whether the core command is there. A flag: an Option would hold nothing, since
-    // the core command lies in the receiver, and only `byte` can lend it.
-    fn read(&mut self, b: u8) -> Result<bool, Fault>
+    // Reads one byte more. The core command is there with the last byte of a good frame, and leaves the receiver.
+    pub(crate) fn byte(&mut self, b: u8) -> Result<Option<CoreCommand>, Fault>
         ensures after { receiver_of self.new ≡ left_by (read (receiver_of self.old) b) }
-        ensures value { answer_with result self.new.core ≡ answer_by (read (receiver_of self.old) b) }
-        ensures sized { IfOk result (λ there. there ≡ true → (0 < length self.new.core) × (length self.new.core ≤ 299)) }
+        ensures value { handed result ≡ answer_by (read (receiver_of self.old) b) }
     {
         match (self.progress, b) {
             (Progress::Idle, 0x80) => self.progress = Progress::LengthLow,
@@ -32,7 +27,6 @@ impl Receiver {
                 if n > 299 {
                     return Err(Fault::TooLong(n));
                 }
-                self.core.clear();
                 self.progress = Progress::Body(n);
             }
             (Progress::Body(n), next) => {
@@ -44,25 +38,14 @@ impl Receiver {
             (Progress::CheckLow, low) => self.progress = Progress::CheckHigh(low),
             (Progress::CheckHigh(low), high) => {
                 let sum = u16::from_le_bytes([low, high]);
-                self.progress = Progress::Idle;
-                if sum != checksum(self.core.as_slice()) {
+                let buffer = self.core;
+                self.clear();
+                if sum != checksum(buffer.as_slice()) {
                     return Err(Fault::BadChecksum(sum));
                 }
-                return Ok(true);
+                return Ok(Some(CoreCommand { buffer }));
             }
         }
-        Ok(false)
-    }
-
-    // The core command is there with the last byte of a good frame.
-    pub fn byte(&mut self, b: u8) -> Result<Option<CoreCommand<'_>>, Fault>
-        ensures value { handed result ≡ answer_by (read (receiver_of self.old) b) }
-        ensures* after { sem 𝓛 (Rests the_row self.entry (λ new. receiver_of new ≡ left_by (read (receiver_of self.old) b))) }
-    {
-        if self.read(b)? {
-            Ok(Some(CoreCommand { buffer: &self.core }))
-        } else {
-            Ok(None)
-        }
+        Ok(None)
     }
 }
