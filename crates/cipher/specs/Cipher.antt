@@ -38,7 +38,11 @@ pub record Lawful (C : Cipher) : Type 0 where
 abbrev pub iv_checked : Cipher → List ℕ → Result (Unit {0}) Fault
 iv_checked C iv = cond (C.well_formed iv) (Ok tt) (Err (BadIv (C.first_wrong iv)))
 
--- what opening answers: how many bytes the contents have
+-- the contents that a packet opens to: none where its IV is not well formed, or its body opens to none
+abbrev pub opened_to : Cipher → List ℕ → List ℕ → List ℕ → Option (List ℕ)
+opened_to C key iv body = cond (C.well_formed iv) (C.opened key iv body) None
+
+-- what opening a body answers: how many bytes the contents have
 abbrev pub opening : Option (List ℕ) → Result ℕ Fault
 opening None = Err NotOpened
 opening (Some c) = Ok (length c)
