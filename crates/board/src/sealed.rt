@@ -57,7 +57,6 @@ impl<const LEAST: usize, const MOST: usize> Sealed<LEAST, MOST> {
         ensures long { IfOk result (λ n. n + 33 ≡ self.entry.length) }
     {
         let (iv, body) = parts(core);
-        C::check_iv(iv)?;
         C::open(key, iv, body, work)
     }
 }

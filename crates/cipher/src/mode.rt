@@ -127,7 +127,12 @@ impl<M: Mode> PacketCipher for M {
         out[n..].copy_from_slice(&tag);
     }
 
-    fn open(key: &[u8; 16], iv: &[u8; 16], body: &[u8], work: &mut [u8; 266]) -> Result<usize, Fault> {
+    fn open(
+        key: &[u8; 16],
+        iv: &[u8; 16],
+        body: &[u8],
+        work: &mut [u8; 266],
+    ) -> Result<usize, Fault> {
         match check_fixed(M::fixed(), iv) {
             Ok(()) => open_into::<M>(key, iv, body, work),
             Err(fault) => refused(work, fault),

@@ -22,7 +22,12 @@ pub trait PacketCipher {
 
     // Opens a body into `work`, and says how many bytes its contents have: a count, since they lie in the caller's own buffer. The bytes
     // behind them are wiped. Refuses an IV that is not well formed, then a body that does not open, and wipes all of them.
-    fn open(key: &[u8; 16], iv: &[u8; 16], body: &[u8], work: &mut [u8; 266]) -> Result<usize, Fault>
+    fn open(
+        key: &[u8; 16],
+        iv: &[u8; 16],
+        body: &[u8],
+        work: &mut [u8; 266],
+    ) -> Result<usize, Fault>
         ensures answer { result ≡ then (iv_checked cipher iv.now) (opening (cipher.opened key.now iv.now body.now)) }
         ensures work { work.new ≡ yielded (opened_to cipher key.now iv.now body.now) };
 
