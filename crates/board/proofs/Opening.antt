@@ -1,6 +1,6 @@
 -- What opening a packet leaves in the work buffer, and what is read of it.
-use Rattle.std.proofs.Common.{◌≡◌, ℕ, ◌+◌, ◌-◌, ◌≤◌, Bool, true, false, List, ◌++◌, length, take, drop, replicate, IfOk, Some, None, Ok, Err, Option, Result, sym, refl, ap, ◌∙◌, ap₂, get_or, arith}
-use Rattle.std.proofs.lemmas.List.{append_assoc, drop-take, get_or-take, length-drop, length-take-le, take_at}
+use Rattle.std.proofs.Common.{◌≡◌, ℕ, ◌+◌, ◌-◌, ◌≤◌, Bool, true, false, cond, List, length, take, drop, replicate, IfOk, Some, None, Ok, Err, Option, Result, sym, refl, ap, ◌∙◌, ap₂, get_or, arith}
+use Rattle.std.proofs.lemmas.List.{drop-take, get_or-take, length-drop, length-take-le, take_at}
 use Rattle.fault.specs.Checks.{check, then}
 use Rattle.fault.specs.declared.Fault.{Fault}
 use Rattle.fault.specs.declared.Fault.TheVariants.{BadIv, NotOpened}
@@ -30,21 +30,23 @@ opens_to C L k core c l i h e =
     omega (arith, a, length-drop 17 core)
 
 -- the contents stand in front
-pub front : (o : Option (List ℕ)) (r : Result ℕ Fault) (rest after : List ℕ) → r ≡ opening o → after ≡ yielded o ++ rest → with_work take after r ≡ on_opened (λ c. Ok c) o
+pub front : (b : Bool) (f : Fault) (o : Option (List ℕ)) (r : Result ℕ Fault) (after : List ℕ) → r ≡ then (check b f) (opening o) → after ≡ yielded (cond b o None)
+    → with_work take after r ≡ then (check b f) (on_opened (λ c. Ok c) o)
 unfolding on_opened
-front None r rest after e h = ap (with_work take after) e
-front (Some c) r rest after e h =
-    ap (with_work take after) e
-    ∙ ap Ok (ap (take (length c)) (h ∙ append_assoc c (replicate (266 - length c) 0) rest) ∙ take_at c (replicate (266 - length c) 0 ++ rest) (length c) refl)
+front false f o r after e h = ap (with_work take after) e
+front true f None r after e h = ap (with_work take after) e
+front true f (Some c) r after e h =
+    ap (with_work take after) e ∙ ap Ok (ap (take (length c)) h ∙ take_at c (replicate (266 - length c) 0) (length c) refl)
 
 -- how many bytes they have
-pub count_is : (C : Cipher) → Lawful C → (k core : List ℕ) → length k ≡ 16 → iv_checked C (iv_of core) ≡ Ok tt → 17 ≤ length core
-    → (o : Option (List ℕ)) → C.opened k (iv_of core) (body_of core) ≡ o → (r : Result ℕ Fault) → r ≡ opening o → IfOk r (λ n. n + 33 ≡ length core)
-count_is C L k core l i h (Some c) e (Ok n) q =
+pub count_is : (C : Cipher) → Lawful C → (k core : List ℕ) → length k ≡ 16 → 17 ≤ length core → (v : Result (Unit {0}) Fault) → iv_checked C (iv_of core) ≡ v
+    → (o : Option (List ℕ)) → C.opened k (iv_of core) (body_of core) ≡ o → (r : Result ℕ Fault) → r ≡ then v (opening o) → IfOk r (λ n. n + 33 ≡ length core)
+count_is C L k core l h (Ok u) i (Some c) e (Ok n) q =
     let z : n ≡ length c = cc in
     omega (arith, z, opens_to C L k core c l i h e)
-count_is C L k core l i h None e (Ok n) q = cc
-count_is C L k core l i h o e (Err f) q = tt
+count_is C L k core l h (Ok u) i None e (Ok n) q = cc
+count_is C L k core l h (Err f) i o e (Ok n) q = cc
+count_is C L k core l h v i o e (Err f) q = tt
 
 -- the same, from the same number written otherwise
 pub long_as : (r : Result ℕ Fault) (i j : ℕ) → i ≡ j → IfOk r (λ n. n + 33 ≡ i) → IfOk r (λ n. n + 33 ≡ j)

@@ -1,7 +1,8 @@
 -- The laws of CCM.
-use Rattle.std.specs.Prelude.{◌≡◌, ℕ, zero, suc, List, ◌∷◌, length, replicate, refl}
-use Rattle.std.proofs.Common.{arith, length-append, length-take, length-drop}
+use Rattle.std.specs.Prelude.{◌≡◌, ℕ, zero, suc, ◌<◌, List, ◌∷◌, length, replicate, refl}
+use Rattle.std.proofs.Common.{arith, lit<, length-append, length-take, length-drop}
 use Rattle.std.proofs.lemmas.List.{length-replicate}
+use Rattle.std.proofs.lemmas.List.Elements.{All-cons, All-replicate}
 use Rattle.cipher.specs.Bytes.{xors}
 use Rattle.cipher.specs.Blocks.{block_at, blocks, chain, counter}
 use Rattle.cipher.specs.Ccm.{ccm, ccm_tag, ccm_stream, ccm_fixed, first_block, mac}
@@ -35,4 +36,5 @@ module _ (E : List ℕ → List ℕ) (size : (b : List ℕ) → length b ≡ 16 
 pub ccm_lawful : (block : List ℕ → List ℕ → List ℕ) → ((k b : List ℕ) → length k ≡ 16 → length b ≡ 16 → length (block k b) ≡ 16) → Lawful (ccm block)
 ccm_lawful block size =
     mode_lawful ccm_fixed (λ k iv. ccm_stream (block k) iv) (λ k iv. ccm_tag (block k) iv) refl (1 ∷ replicate 15 0) refl refl
+    (All-cons (λ b. b < 256) 1 (replicate 15 0) (lit< tt) (All-replicate (λ b. b < 256) 15 0 (lit< tt)))
     (λ k iv c hk hi. length_ccm_tag (block k) (λ b. size k b hk) iv c hi)

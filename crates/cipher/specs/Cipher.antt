@@ -1,5 +1,6 @@
 -- What a packet cipher means, and its laws. Keys, IVs, contents and bodies are lists of bytes.
 use Rattle.std.specs.Prelude.{◌≡◌, ℕ, ◌+◌, ◌-◌, ◌<◌, ◌≤◌, Bool, true, false, cond, List, ◌++◌, length, replicate, Some, None, Ok, Err, Option, Result}
+use Rattle.std.specs.List.{All}
 use Rattle.fault.specs.declared.Fault.{Fault}
 use Rattle.fault.specs.declared.Fault.TheVariants.{BadIv, NotOpened}
 
@@ -20,8 +21,8 @@ Usable C k iv = (length k ≡ 16) × (length iv ≡ 16) × (C.well_formed iv ≡
 
 -- The laws of a packet cipher, for usable keys and IVs and contents of 0 to 266 bytes.
 pub record Lawful (C : Cipher) : Type 0 where
-  -- some IV is well formed
-  pub some_iv : (iv : List ℕ) × (length iv ≡ 16) × (C.well_formed iv ≡ true)
+  -- some IV of bytes is well formed
+  pub some_iv : (iv : List ℕ) × (length iv ≡ 16) × (C.well_formed iv ≡ true) × All (λ b. b < 256) iv
   -- any other is first wrong at one of its bytes
   pub wrong_within : (iv : List ℕ) → length iv ≡ 16 → C.well_formed iv ≡ false → C.first_wrong iv < 16
   -- what a body opens to seals to that body
@@ -37,7 +38,11 @@ pub record Lawful (C : Cipher) : Type 0 where
 abbrev pub iv_checked : Cipher → List ℕ → Result (Unit {0}) Fault
 iv_checked C iv = cond (C.well_formed iv) (Ok tt) (Err (BadIv (C.first_wrong iv)))
 
--- what opening answers: how many bytes the contents have
+-- the contents that a packet opens to: none where its IV is not well formed, or its body opens to none
+abbrev pub opened_to : Cipher → List ℕ → List ℕ → List ℕ → Option (List ℕ)
+opened_to C key iv body = cond (C.well_formed iv) (C.opened key iv body) None
+
+-- what opening a body answers: how many bytes the contents have
 abbrev pub opening : Option (List ℕ) → Result ℕ Fault
 opening None = Err NotOpened
 opening (Some c) = Ok (length c)

@@ -1,7 +1,8 @@
 -- The laws of GCM.
 use Rattle.std.specs.Prelude.{◌≡◌, ℕ, zero, suc, ◌+◌, ◌/◌, ◌%◌, ◌<◌, ◌≤◌, true, List, [], ◌∷◌, ◌++◌, length, take, replicate, ◌==◌, bit_xor, slice_index, refl}
-use Rattle.std.proofs.Common.{ap, ap₂, ◌∙◌, arith, eqb-true}
+use Rattle.std.proofs.Common.{ap, ap₂, ◌∙◌, arith, eqb-true, lit<}
 use Rattle.std.proofs.lemmas.List.{append_assoc, take_more}
+use Rattle.std.proofs.lemmas.List.Elements.{All-append, All-replicate}
 use Rattle.std.proofs.lemmas.Bool.{and_parts}
 use Rattle.cipher.specs.Blocks.{stream, counter}
 use Rattle.cipher.specs.Cipher.{Lawful}
@@ -60,4 +61,5 @@ length_gcm_mac E iv xs h = length_xors (block_bytes (ghash (number (E (replicate
 pub gcm_lawful : (block : List ℕ → List ℕ → List ℕ) → ((k b : List ℕ) → length k ≡ 16 → length b ≡ 16 → length (block k b) ≡ 16) → Lawful (gcm block)
 gcm_lawful block size =
     mode_lawful gcm_fixed (λ k iv. gcm_stream (block k) iv) (λ k iv. gcm_tag (block k) iv) refl (replicate 15 0 ++ 1 ∷ []) refl refl
+    (All-append (λ b. b < 256) (replicate 15 0) (1 ∷ []) (All-replicate (λ b. b < 256) 15 0 (lit< tt)) (All-replicate (λ b. b < 256) 1 1 (lit< tt)))
     (λ k iv c hk hi. length_gcm_mac (block k) iv (xor_from (gcm_stream (block k) iv) 0 c) (size k iv hk hi))

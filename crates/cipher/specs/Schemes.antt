@@ -1,5 +1,6 @@
 -- Sealing and opening undo each other.
 use Rattle.std.specs.Prelude.{◌≡◌, ℕ, suc, ◌+◌, ◌-◌, ◌<◌, ◌≤◌, Bool, true, false, cond, ◌&&◌, List, [], ◌∷◌, ◌++◌, length, take, drop, Some, None, Option, ◌==◌, bit_xor, nat_le, nat_lt, slice_index, refl}
+use Rattle.std.specs.List.{All}
 use Rattle.std.proofs.Common.{sym, ap, ap₂, ◌∙◌, arith, length-append, length-take, eq-eqb, eqb-true}
 use Rattle.std.specs.Int.Bits.{xor_assoc, xor_self, xor_zero_r}
 use Rattle.std.proofs.lemmas.List.{take-append-drop, take_at, drop_at}
@@ -96,10 +97,10 @@ unfixed_within ((i, b) ∷ rest) iv h =
 
 -- a key stream with a tag of 16 bytes is a lawful packet cipher
 pub mode_lawful : (fixed : Fixed) (stream : List ℕ → List ℕ → ℕ → ℕ) (tag : List ℕ → List ℕ → List ℕ → List ℕ)
-    → places_within fixed ≡ true → (iv : List ℕ) → length iv ≡ 16 → has_fixed fixed iv ≡ true
+    → places_within fixed ≡ true → (iv : List ℕ) → length iv ≡ 16 → has_fixed fixed iv ≡ true → All (λ b. b < 256) iv
     → ((k iv c : List ℕ) → length k ≡ 16 → length iv ≡ 16 → length (tag k iv c) ≡ 16) → Lawful (mode fixed stream tag)
-mode_lawful fixed stream tag w iv l f size = record {
-  some_iv = (iv, l, f);
+mode_lawful fixed stream tag w iv l f bytes size = record {
+  some_iv = (iv, l, f, bytes);
   wrong_within = λ iv _ _. unfixed_within fixed iv w;
   sound = λ k iv b c u. sound (stream k iv) (tag k iv) b c;
   complete = λ k iv c u. complete (stream k iv) (tag k iv) c (size k iv c u.0 u.1);

@@ -1,7 +1,7 @@
 // What the modes share: each is a packet cipher by its IV's fixed bytes, its key stream and its tag.
 ghost use Rattle.std.specs.Prelude.{◌≡◌, ℕ, ◌-◌, ◌<◌, ◌≤◌, true, false, List, length, take, drop, replicate, Ok, Err, if◌then◌else◌, MatchOption};
 ghost use Rattle.std.specs.List.{All};
-ghost use Rattle.fault.specs.declared.Fault.TheVariants.{BadIv, NotOpened};
+ghost use Rattle.fault.specs.declared.Fault.TheVariants.{BadIv};
 ghost use Rattle.cipher.specs.Cipher.{Lawful, opening, yielded};
 ghost use Rattle.cipher.specs.Sealing.{xor_from, same, body_sized, opened, Fixed, has_fixed, first_unfixed, mode};
 
@@ -79,15 +79,16 @@ fn same_tag(a: &[u8; 16], b: &[u8; 16]) -> bool
     difference == 0
 }
 
-// Wipes `work`, and refuses the body.
-fn refused(work: &mut [u8; 266]) -> Result<usize, Fault>
-    ensures answer { result ≡ Err NotOpened }
+// Wipes `work`, and refuses the packet.
+fn refused(work: &mut [u8; 266], fault: Fault) -> Result<usize, Fault>
+    ensures answer { result ≡ Err fault }
     ensures work { work.new ≡ replicate 266 0 }
 {
     work.fill(0);
-    Err(Fault::NotOpened)
+    Err(fault)
 }
 
+// Opens a body whose IV is well formed.
 fn open_into<M: Mode>(
     key: &[u8; 16],
     iv: &[u8; 16],
@@ -99,12 +100,12 @@ fn open_into<M: Mode>(
     ensures work { work.new ≡ yielded (opened (M.stream (M.Block.block key.now) iv.now) (M.tag (M.Block.block key.now) iv.now) body.now) }
 {
     let Some((covered, given)) = parted(body) else {
-        return refused(work);
+        return refused(work, Fault::NotOpened);
     };
     let n = covered.len();
     let tag = M::decrypt(&Session::new(key, iv), covered, &mut work[..n]);
     if !same_tag(&tag, given) {
-        return refused(work);
+        return refused(work, Fault::NotOpened);
     }
     work[n..].fill(0);
     Ok(n)
@@ -126,8 +127,15 @@ impl<M: Mode> PacketCipher for M {
         out[n..].copy_from_slice(&tag);
     }
 
-    fn open(key: &[u8; 16], iv: &[u8; 16], body: &[u8], work: &mut [u8]) -> Result<usize, Fault> {
-        let work = work.first_chunk_mut().ok_or(Fault::NotOpened)?;
-        open_into::<M>(key, iv, body, work)
+    fn open(
+        key: &[u8; 16],
+        iv: &[u8; 16],
+        body: &[u8],
+        work: &mut [u8; 266],
+    ) -> Result<usize, Fault> {
+        match check_fixed(M::fixed(), iv) {
+            Ok(()) => open_into::<M>(key, iv, body, work),
+            Err(fault) => refused(work, fault),
+        }
     }
 }

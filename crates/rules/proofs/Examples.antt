@@ -1,7 +1,8 @@
 -- The rules at examples: a listing, and for each promise a run that it speaks of.
-use Rattle.std.proofs.Common.{◌≡◌, ℕ, suc, ◌/◌, ◌%◌, ◌<◌, ◌≤◌, Bool, true, false, cond, eqb, leb, List, [], ◌∷◌, ◌++◌, map, length, get_or, set, replicate, Some, None, Ok, Option, sym, refl, ap, ◌∙◌, subst, inl, inr, true≢false, arith, lit<, length-set}
+use Rattle.std.proofs.Common.{◌≡◌, ℕ, suc, ◌/◌, ◌<◌, ◌≤◌, Bool, true, false, cond, eqb, leb, List, [], ◌∷◌, ◌++◌, map, length, get_or, set, replicate, Some, None, Ok, Option, sym, refl, ap, ◌∙◌, subst, inl, inr, true≢false, arith, lit<, length-set}
 use lib.ListN.{length-replicate, get_or-replicate}
 use Rattle.std.proofs.lemmas.List.{get_or-set_same, get_or-set_other, append_cancel_left, length-append}
+use Rattle.std.proofs.lemmas.List.Elements.{All-replicate}
 use Rattle.std.proofs.lemmas.Bool.{leb-true, le-leb, cond-true, eqb-true, eq-eqb, ne_eqb}
 use Rattle.fault.specs.declared.Fault.TheVariants.{Dark, NotOpened, MayNotOpen, OldKey}
 use Rattle.memory.specs.declared.supply.Supply.TheVariants.{NoEnd, Steps}
@@ -22,6 +23,9 @@ use Rattle.rules.specs.Words.{Each, version, Boots, Arrives, Opens, here}
 use Rattle.rules.specs.Promises.{Given, start, Endlessly}
 use Rattle.rules.specs.Examples.{refused_seven}
 use Rattle.rules.specs.Instances.{ResumedUpdate, Replay, Parting, RunsExist}
+use Rattle.rules.specs.Arrival.{InByte, GivesByte}
+use Rattle.rules.proofs.Bytes.{bytes_by, frame_front, front_bytes, high_byte}
+use Rattle.rules.proofs.Steps.{each_append}
 use Rattle.rules.proofs.Runs.{run_append, history_append}
 use Rattle.rules.proofs.OneList.{packets_exist}
 
@@ -58,7 +62,7 @@ strip_complete (x ∷ k) c h = cond-true (eqb x x) (strip k (k ++ c)) None (eq-e
 
 open_lawful : Lawful open_cipher
 open_lawful = record {
-  some_iv = (replicate 16 0, length-replicate {A = ℕ} 16 0, refl);
+  some_iv = (replicate 16 0, length-replicate {A = ℕ} 16 0, refl, All-replicate (λ b. b < 256) 16 0 (lit< tt));
   wrong_within = λ iv l e. absurd (true≢false e);
   sound = λ k iv b c u e. strip_sound k b c e;
   complete = λ k iv c u h. strip_complete k c h;
@@ -104,10 +108,32 @@ byte b = Byte b 11 266
 
 -- the packet's frame, but its last byte; and that byte
 abbrev front : List Event
-front = map byte (0x80 ∷ 45 ∷ 0 ∷ (core ++ (crc core % 0x100) ∷ []))
+front = map byte (frame_front 45 core)
 
 abbrev last_byte : Event
 last_byte = byte (crc core / 0x100)
+
+-- both give bytes
+bytes_given : (bs : List ℕ) → Each InByte bs → Each GivesByte (map byte bs)
+unfolding byte
+bytes_given [] h = tt
+bytes_given (b ∷ bs) h = (h.0, bytes_given bs h.1)
+
+byte_given : (b : ℕ) → InByte b → GivesByte (byte b)
+unfolding byte
+byte_given b h = h
+
+core_bytes : Each InByte core
+core_bytes = bytes_by core refl
+
+front_given : Each GivesByte front
+front_given = bytes_given (frame_front 45 core) (front_bytes core 45 (lit< tt) core_bytes)
+
+last_byte_given : GivesByte last_byte
+last_byte_given = byte_given (crc core / 0x100) (high_byte core core_bytes)
+
+frame_given : Each GivesByte (front ++ last_byte ∷ [])
+frame_given = each_append GivesByte front (last_byte ∷ []) front_given (last_byte_given, tt)
 
 -- all that the runs compute with
 receiving : Unit {0}
@@ -220,6 +246,13 @@ second_boots =
 abbrev cut_and_sent_again : List Event
 cut_and_sent_again = ahead ++ last_byte ∷ (waiting ++ last_byte ∷ [])
 
+cut_given : Each GivesByte (Question ∷ (cut_and_sent_again ++ Question ∷ []))
+cut_given = (
+  tt,
+  each_append GivesByte cut_and_sent_again (Question ∷ [])
+      (tt, each_append GivesByte front (last_byte ∷ (waiting ++ last_byte ∷ [])) front_given (last_byte_given, (tt, frame_given))) (tt, tt),
+)
+
 fresh_version : version (start (board 0)) ≡ 0
 unfolding fresh
 fresh_version = refl
@@ -258,6 +291,7 @@ resumed_update = record {
   lawful = open_lawful;
   given = board 0;
   events = Question ∷ (cut_and_sent_again ++ Question ∷ []);
+  of_bytes = cut_given;
   first_question = call open_cipher (start (board 0)) Question;
   between = history open_cipher (start (board 0)) cut_and_sent_again;
   second_question = call open_cipher updated Question;
@@ -320,6 +354,9 @@ twice_keys : ZeroKeys ready_twice
 unfolding every_rule
 twice_keys = record { data_zero = refl; kek_zero = refl }
 
+twice_given : (xs : List Event) (e : Event) → Each GivesByte xs → GivesByte e → Each GivesByte ((xs ++ e ∷ xs) ++ e ∷ [])
+twice_given xs e h k = each_append GivesByte (xs ++ e ∷ xs) (e ∷ []) (each_append GivesByte xs (e ∷ xs) h (k, h)) (k, tt)
+
 -- the history of a frame that comes twice
 twice_is : (s : State) (xs : List Event) (e : Event) →
     let once = run open_cipher s xs in
@@ -340,6 +377,7 @@ replay =
       lawful = open_lawful;
       given = board 0;
       events = (front ++ last_byte ∷ front) ++ last_byte ∷ [];
+      of_bytes = twice_given front last_byte front_given last_byte_given;
       ahead = history open_cipher (start (board 0)) front;
       first_time = arrival ready_once;
       between = history open_cipher taken_once front;
@@ -404,7 +442,8 @@ parting = record {
   given = board 0;
   other = board 1;
   events = front ++ last_byte ∷ [];
-  endless = bytes_endless (0x80 ∷ 45 ∷ 0 ∷ (core ++ (crc core % 0x100) ∷ [])) (last_byte ∷ []) last_endless;
+  of_bytes = frame_given;
+  endless = bytes_endless (frame_front 45 core) (last_byte ∷ []) last_endless;
   ahead = history open_cipher (start (board 0)) front;
   takes = arrival ready_once;
   other_ahead = history open_cipher (start (board 1)) front;
@@ -421,8 +460,11 @@ parting = record {
 abbrev key_core : List ℕ
 key_core = 0x31 ∷ (replicate 16 0 ++ (replicate 16 0 ++ 0 ∷ 1 ∷ replicate 16 7))
 
+key_bytes : Each InByte key_core
+key_bytes = bytes_by key_core refl
+
 abbrev key_front : List Event
-key_front = map byte (0x80 ∷ 51 ∷ 0 ∷ (key_core ++ (crc key_core % 0x100) ∷ []))
+key_front = map byte (frame_front 51 key_core)
 
 abbrev key_last : Event
 key_last = byte (crc key_core / 0x100)
@@ -466,6 +508,7 @@ key_replay =
       lawful = open_lawful;
       given = board 0;
       events = (key_front ++ key_last ∷ key_front) ++ key_last ∷ [];
+      of_bytes = twice_given key_front key_last (bytes_given (frame_front 51 key_core) (front_bytes key_core 51 (lit< tt) key_bytes)) (byte_given (crc key_core / 0x100) (high_byte key_core key_bytes));
       ahead = history open_cipher (start (board 0)) key_front;
       first_time = key_arrival key_once;
       between = history open_cipher key_taken key_front;

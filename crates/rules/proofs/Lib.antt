@@ -1,5 +1,6 @@
 pub mod Frames
 pub mod Receipt
+pub mod Bytes
 pub mod Twins
 pub mod Steps
 pub mod Laying

@@ -33,7 +33,7 @@ pub each_snoc : (bs : List ℕ) (b : ℕ) → Each InByte bs → InByte b → Ea
 each_snoc [] b h k = (k, tt)
 each_snoc (x ∷ xs) b h k = (h.0, each_snoc xs b h.1 k)
 
-long_snoc : (bs : List ℕ) (b : ℕ) → length (bs ++ b ∷ []) ≡ suc (length bs)
+pub long_snoc : (bs : List ℕ) (b : ℕ) → length (bs ++ b ∷ []) ≡ suc (length bs)
 long_snoc bs b = length-append bs (b ∷ []) ∙ omega arith
 
 -- lists that agree agree in their parts

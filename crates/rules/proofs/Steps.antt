@@ -22,7 +22,7 @@ supply_cases NoEnd = inr (λ e. let z : ◌≡◌ {A = ℕ} 0 1 = cc in omega ar
 supply_cases (Steps zero) = inl refl
 supply_cases (Steps (suc n)) = inr (λ e. let z : suc n ≡ 0 = cc in omega arith)
 
-each_append : (P : Step → Type 0) (xs ys : List Step) → Each P xs → Each P ys → Each P (xs ++ ys)
+pub each_append : {A : Type 0} (P : A → Type 0) (xs ys : List A) → Each P xs → Each P ys → Each P (xs ++ ys)
 each_append P [] ys h k = k
 each_append P (x ∷ xs) ys h k = (h.0, each_append P xs ys h.1 k)
 

@@ -1,4 +1,4 @@
--- Runs that the promises speak of: none of the promises is empty.
+-- Runs that the promises speak of, of calls that give bytes: none of the promises is empty.
 use Rattle.std.specs.Prelude.{◌≡◌, ℕ, ◌<◌, List, [], ◌∷◌, ◌++◌, length, Some}
 use Rattle.fault.specs.declared.Fault.TheVariants.{Dark}
 use Rattle.cipher.specs.Cipher.{Cipher, Lawful}
@@ -6,6 +6,7 @@ use Rattle.rules.specs.declared.Event.{Event}
 use Rattle.rules.specs.Board.{Call, Packet, history}
 use Rattle.rules.specs.Words.{Each, version, Boots, Arrives, Begins, Taken, Refused, Opens}
 use Rattle.rules.specs.Promises.{Given, start, UsedUp, SameKey, Endlessly, Parted}
+use Rattle.rules.specs.Arrival.{GivesByte}
 
 -- Between two boot questions, both answered 'application', an update opens and is cut by the power; its packet is sent again and taken.
 pub record ResumedUpdate : Type 0 where
@@ -13,6 +14,7 @@ pub record ResumedUpdate : Type 0 where
   pub lawful : Lawful cipher
   pub given : Given
   pub events : List Event
+  pub of_bytes : Each GivesByte events
   pub first_question : Call
   pub between : List Call
   pub second_question : Call
@@ -38,6 +40,7 @@ pub record Replay (command : ℕ) : Type 0 where
   pub lawful : Lawful cipher
   pub given : Given
   pub events : List Event
+  pub of_bytes : Each GivesByte events
   pub ahead : List Call
   pub first_time : Call
   pub between : List Call
@@ -58,6 +61,7 @@ pub record Parting : Type 0 where
   pub given : Given
   pub other : Given
   pub events : List Event
+  pub of_bytes : Each GivesByte events
   pub endless : Each Endlessly events
   pub ahead : List Call
   pub takes : Call

@@ -1,5 +1,6 @@
 // A packet of full size, opened again and again.
 ghost use Rattle.std.specs.Prelude.{◌≡◌, true, cond, is_some, replicate};
+ghost use Rattle.cipher.specs.Cipher.{opened_to};
 
 use cipher::PacketCipher;
 
@@ -13,7 +14,7 @@ pub fn full_body<C: PacketCipher>(key: &[u8; 16], iv: &[u8; 16]) -> [u8; 282]
     body
 }
 
-// Whether a body opens. Never inlined, so that no turn can share the key schedule of another.
+// Whether a packet opens. Never inlined, so that no turn can share the key schedule of another.
 #[inline(never)]
 fn is_opened<C: PacketCipher>(
     key: &[u8; 16],
@@ -21,16 +22,14 @@ fn is_opened<C: PacketCipher>(
     body: &[u8; 282],
     work: &mut [u8; 266],
 ) -> bool
-    requires { C.cipher.well_formed iv.now ≡ true }
-    ensures { result ≡ is_some (C.cipher.opened key.now iv.now body.now) }
+    ensures { result ≡ is_some (opened_to C.cipher key.now iv.now body.now) }
 {
     C::open(key, iv, body, work).is_ok()
 }
 
-// Opens a body so many times, and says how often it opened.
+// Opens a packet so many times, and says how often it opened.
 pub fn opens<C: PacketCipher>(key: &[u8; 16], iv: &[u8; 16], body: &[u8; 282], turns: u32) -> u32
-    requires { C.cipher.well_formed iv.now ≡ true }
-    ensures { result ≡ cond (is_some (C.cipher.opened key.now iv.now body.now)) turns 0 }
+    ensures { result ≡ cond (is_some (opened_to C.cipher key.now iv.now body.now)) turns 0 }
 {
     let mut work = [0; 266];
     let mut count = 0;

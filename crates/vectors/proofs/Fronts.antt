@@ -1,6 +1,7 @@
 -- What stands at the front of a buffer, taken out of it.
-use Rattle.std.proofs.Common.{◌≡◌, ℕ, ◌+◌, ◌-◌, ◌≤◌, List, ◌++◌, length, take, drop, replicate, Some, None, Ok, Err, Option, Result, refl, ap, ◌∙◌, arith, length-append}
+use Rattle.std.proofs.Common.{◌≡◌, ℕ, ◌+◌, ◌-◌, ◌≤◌, Bool, true, false, cond, List, ◌++◌, length, take, drop, replicate, Some, None, Ok, Err, Option, Result, refl, ap, ◌∙◌, arith, length-append}
 use Rattle.std.proofs.lemmas.List.{append_assoc, length-take-le, take-take, take_all, take_at}
+use Rattle.fault.specs.Checks.{check, then}
 use Rattle.fault.specs.declared.Fault.{Fault}
 use Rattle.cipher.specs.Cipher.{opening, yielded}
 use Rattle.packer.specs.Packing.{frame_length, laid}
@@ -27,16 +28,16 @@ contents_front contents copied more e l h =
     ∙ take_at contents more (length contents) refl
 
 -- the contents that were opened, at the front of the work buffer
-pub opened_front : (o : Option (List ℕ)) (n : ℕ) (work rest : List ℕ) → Ok n ≡ opening o → work ≡ yielded o ++ rest → length work ≤ 1024
-    → Ok (take 1024 (take (n - 0) work)) ≡ contents_or_none o
-opened_front None n work rest e w h = cc
-opened_front (Some c) n work rest e w h =
+pub opened_front : (b : Bool) (f : Fault) (o : Option (List ℕ)) (n : ℕ) (work : List ℕ) → Ok n ≡ then (check b f) (opening o) → work ≡ yielded (cond b o None)
+    → length work ≤ 1024 → Ok (take 1024 (take (n - 0) work)) ≡ then (check b f) (contents_or_none o)
+opened_front false f o n work e w h = cc
+opened_front true f None n work e w h = cc
+opened_front true f (Some c) n work e w h =
     let l : n ≡ length c = cc in
     let zeros : List ℕ = replicate (266 - length c) 0 in
-    let s : work ≡ c ++ (zeros ++ rest) = w ∙ append_assoc c zeros rest in
-    let m : length work ≡ length c + length (zeros ++ rest) = ap length s ∙ length-append c (zeros ++ rest) in
+    let m : length work ≡ length c + length zeros = ap length w ∙ length-append c zeros in
     let k : n ≤ 1024 = omega (arith, l, m, h) in
-    ap (λ x. Ok (take 1024 (take (n - 0) x))) s ∙ ap Ok (front c (zeros ++ rest) n l k)
+    ap (λ x. Ok (take 1024 (take (n - 0) x))) w ∙ ap Ok (front c zeros n l k)
 
 -- the frame that was packed, at the front of the output
 pub packed_front : (r : Result (List ℕ) Fault) (n : ℕ) (xs out rest : List ℕ) → Ok n ≡ frame_length r → out ≡ laid r xs → length out ≤ 1024

@@ -49,7 +49,6 @@ pub fn open_answer<C: PacketCipher>(
 ) -> Result<Bytes, Fault>
     ensures { result ≡ opened C.PacketCipher.cipher key.now iv.now body.now }
 {
-    C::check_iv(iv)?;
     let mut work = [0; 266];
     let n = C::open(key, iv, body, &mut work)?;
     Ok(Bytes::from_slice(&work[0..n]))
