@@ -4,7 +4,8 @@
 use crate::aes::{Aes, Block};
 use crate::cipher::{Cipher, LONGEST_CONTENTS};
 use crate::hex;
-use crate::packet::{pack_data, pack_key, well_formed, Data, NewKey, Refusal};
+use crate::packet::{pack_data, pack_key, well_formed, Data, NewKey};
+use crate::refusal::Refusal;
 use std::io::{self, BufRead, Write};
 
 /// The most bytes that an output to pack into can have.
@@ -63,7 +64,7 @@ fn result_of(case: &str) -> Option<Result<Vec<u8>, Refusal>> {
         "open" => {
             let (cipher, key, iv) = (words.cipher()?, words.block()?, words.block()?);
             let body = words.bytes()?;
-            let not_opened = Refusal { number: 12, place: 0 };
+            let not_opened = Refusal::without_place(12);
             well_formed(cipher, &iv).and_then(|()| cipher.open(&key, &iv, &body).ok_or(not_opened))
         }
         "data" => {

@@ -1,6 +1,7 @@
 //! The program `bench`: reads a listing of calls, makes them on a fresh board, prints a line for each.
 
 use crate::board::{answers, Answer, Board, Event};
+use crate::refusal::Refusal;
 use std::io::{self, BufRead, Write};
 
 /// The call that a line (without its end) stands for; none if it is malformed.
@@ -28,14 +29,30 @@ fn call_of(line: &[u8]) -> Option<Event> {
 }
 
 /// The answer to a malformed line, which never reaches the board.
-const MALFORMED: Answer = Answer { refusal: 8, shown: Vec::new() };
+const MALFORMED: Answer = Answer { refusal: Some(Refusal { number: 8, place: 0 }), shown: Vec::new() };
 
 /// What the board answers to a line.
 pub fn answer_to(board: &mut Board, line: &[u8]) -> Answer {
     call_of(line).map_or(MALFORMED, |event| board.call(event))
 }
 
-pub fn run(mut input: impl BufRead, mut output: impl Write) -> io::Result<()> {
+/// The line printed for an answer, without its end; with places it has the refusal's layer and place, too.
+fn row(event: usize, answer: &Answer, places: bool) -> String {
+    let mut row = format!("{:6}{:4}", event % 1_000_000, answer.number());
+    if places {
+        let (layer, place) = match answer.refusal {
+            Some(refusal) => (refusal.layer(), refusal.place),
+            None => ("-", 0),
+        };
+        row += &format!(" {layer:<7}{place:11}");
+    }
+    for byte in &answer.shown {
+        row += &format!("{byte:4}");
+    }
+    row
+}
+
+pub fn run(mut input: impl BufRead, mut output: impl Write, places: bool) -> io::Result<()> {
     let mut text = Vec::new();
     input.read_to_end(&mut text)?;
     let mut lines: Vec<&[u8]> = text.split(|&byte| byte == b'\n').collect();
@@ -46,11 +63,7 @@ pub fn run(mut input: impl BufRead, mut output: impl Write) -> io::Result<()> {
     let mut answers = answers(&events).into_iter();
     for (i, call) in calls.iter().enumerate() {
         let answer = call.and_then(|_| answers.next()).unwrap_or(MALFORMED);
-        write!(output, "{:6}{:4}", (i + 1) % 1_000_000, answer.refusal)?;
-        for byte in answer.shown {
-            write!(output, "{byte:4}")?;
-        }
-        output.write_all(b"\n")?;
+        writeln!(output, "{}", row(i + 1, &answer, places))?;
     }
     output.flush()
 }
@@ -59,9 +72,9 @@ pub fn run(mut input: impl BufRead, mut output: impl Write) -> io::Result<()> {
 mod tests {
     use super::*;
 
-    fn printed(listing: &[u8]) -> String {
+    fn printed(listing: &[u8], places: bool) -> String {
         let mut output = Vec::new();
-        run(listing, &mut output).unwrap();
+        run(listing, &mut output, places).unwrap();
         String::from_utf8(output).unwrap()
     }
 
@@ -84,7 +97,31 @@ Q          0
      6   0   0 128   5   0  58   0  88  86 181  68 255
      7   0   2
 ";
-        assert_eq!(printed(listing), expected);
+        assert_eq!(printed(listing, false), expected);
+    }
+
+    #[test]
+    fn worked_places_of_the_rules() {
+        let listing = b"\
+B          7
+B
+Q          0
+";
+        let expected = "     1  81 frame            7  81
+     2   8 call             0
+     3   0 -                0   2
+";
+        assert_eq!(printed(listing, true), expected);
+    }
+
+    #[test]
+    fn columns_of_a_place() {
+        let shown = vec![0, 128];
+        let widest = Answer { refusal: Some(Refusal::at(23, 0xFF_FFFFusize)), shown: shown.clone() };
+        assert_eq!(row(72_903, &widest, true), " 72903  23 memory    16777215   0 128");
+        assert_eq!(row(72_903, &widest, false), " 72903  23   0 128");
+        let command = Answer { refusal: Some(Refusal::at(9, 0x16usize)), shown };
+        assert_eq!(row(1_000_001, &command, true), "     1   9 command         22   0 128");
     }
 
     #[test]
@@ -106,14 +143,14 @@ Q          0
 
     #[test]
     fn bytes_behind_the_last_line_are_none() {
-        assert_eq!(printed(b""), "");
-        assert_eq!(printed(b"Q          0"), "");
-        assert_eq!(printed(b"\nB          7\nB"), "     1   8\n     2  81  81\n");
+        assert_eq!(printed(b"", false), "");
+        assert_eq!(printed(b"Q          0", false), "");
+        assert_eq!(printed(b"\nB          7\nB", false), "     1   8\n     2  81  81\n");
     }
 
     #[test]
     fn the_count_starts_again_at_a_million() {
-        let text = printed(&b"\n".repeat(1_000_001));
+        let text = printed(&b"\n".repeat(1_000_001), false);
         assert!(text.ends_with("999999   8\n     0   8\n     1   8\n"));
     }
 }

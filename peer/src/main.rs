@@ -14,12 +14,13 @@ mod hex;
 mod listing;
 mod packet;
 mod random;
+mod refusal;
 
 use std::io::{self, BufWriter, Write};
 use std::process::ExitCode;
 
 const USAGE: &str =
-    "usage: peer bench < LISTING | peer listing | peer topics | peer cases | peer answers < CASES";
+    "usage: peer bench [--places] < LISTING | peer listing | peer topics | peer cases | peer answers < CASES";
 
 fn main() -> ExitCode {
     let words: Vec<String> = std::env::args().skip(1).collect();
@@ -27,7 +28,8 @@ fn main() -> ExitCode {
     let input = io::stdin().lock();
     let mut output = BufWriter::new(io::stdout().lock());
     let result = match words[..] {
-        ["bench"] => bench::run(input, output),
+        ["bench"] => bench::run(input, output, false),
+        ["bench", "--places"] => bench::run(input, output, true),
         ["listing"] => output.write_all(&listing::write().text).and_then(|()| output.flush()),
         ["topics"] => topics(output),
         ["cases"] => output.write_all(cases::write().as_bytes()).and_then(|()| output.flush()),

@@ -3,16 +3,10 @@
 use crate::aes::Block;
 use crate::cipher::Cipher;
 use crate::crc::checksum;
+use crate::refusal::Refusal;
 
 pub const DATA_PACKET: u8 = 0x30;
 pub const KEY_PACKET: u8 = 0x31;
-
-/// A refusal as the packer and the ciphers give it.
-#[derive(PartialEq, Debug)]
-pub struct Refusal {
-    pub number: u8,
-    pub place: usize,
-}
 
 pub fn frame(core: &[u8]) -> Vec<u8> {
     let mut frame = vec![0x80];
@@ -84,14 +78,14 @@ pub fn core(command: u8, cipher: Cipher, key: &Block, iv: &Block, contents: &[u8
 
 pub fn well_formed(cipher: Cipher, iv: &Block) -> Result<(), Refusal> {
     match cipher.first_wrong(iv) {
-        Some(place) => Err(Refusal { number: 11, place }),
+        Some(place) => Err(Refusal::at(11, place)),
         None => Ok(()),
     }
 }
 
 fn room_for(length: usize, room: usize) -> Result<(), Refusal> {
     if room < length {
-        return Err(Refusal { number: 6, place: 0 });
+        return Err(Refusal::without_place(6));
     }
     Ok(())
 }
@@ -106,10 +100,10 @@ pub fn pack_data(
 ) -> Result<Vec<u8>, Refusal> {
     let count = data.bytes.len();
     if !(1..=256).contains(&count) {
-        return Err(Refusal { number: 5, place: 0 });
+        return Err(Refusal::without_place(5));
     }
     if data.address > 0xFF_FFFF {
-        return Err(Refusal { number: 7, place: 0 });
+        return Err(Refusal::without_place(7));
     }
     well_formed(cipher, iv)?;
     room_for(48 + count, room)?;

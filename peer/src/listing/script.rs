@@ -74,8 +74,8 @@ impl Script {
     }
 
     fn told(&self, got: Answer, refusal: u8, shown: &[u8]) {
-        let told = Answer { refusal, shown: shown.to_vec() };
-        assert_eq!(got, told, "the answer (left) to line {} is not as told", self.lines);
+        let got = (got.number(), got.shown.as_slice());
+        assert_eq!(got, (refusal, shown), "the answer (left) to line {} is not as told", self.lines);
     }
 
     // Calls with their told answers.

@@ -212,12 +212,12 @@ pub fn malformed_lines(s: &mut Script) {
     assert_eq!(found.shown, [APPLICATION]);
     for line in [b"S       0000", b"R04294967295", b"R 0000000010", b"R00000000000"] {
         let got = s.line(line);
-        assert_eq!((got.refusal, got.shown.len()), (0, 0));
+        assert_eq!((got.number(), got.shown.len()), (0, 0));
     }
     s.power_up(NO_END);
     for line in [b"B00000000255", b"B       0000", b"B         07"] {
         let got = s.line(line);
-        assert_eq!(got.refusal, 81);
+        assert_eq!(got.number(), 81);
     }
     s.question(APPLICATION);
 }
