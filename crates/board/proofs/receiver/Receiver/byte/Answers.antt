@@ -1,7 +1,7 @@
 use Rattle.std.proofs.Common.{length, sym, ap, ◌∙◌}
 use Rattle.board.specs.Reading.{left_by, receiver_at}
 use Rattle.board.proofs.Bodies.{body_last, body_more, sound_more}
-use Rattle.board.proofs.receiver.Receiver.read.Goals as goal
+use Rattle.board.proofs.receiver.Receiver.byte.Goals as goal
 
 pub invariant_of-self-else-as_slice-n : goal.invariant_of-self-else-as_slice-n
 invariant_of-self-else-as_slice-n c =
