@@ -1,4 +1,4 @@
-use Rattle.std.proofs.Common.{length, drop, replicate, Ok, sym, ap, ◌∙◌}
+use Rattle.std.proofs.Common.{length, Ok, sym, ap, ◌∙◌}
 use Rattle.std.proofs.lemmas.Slice.Eq.{slice_eq-Decides}
 use Rattle.pack.proofs.Opened.{opened_is}
 use Rattle.pack.proofs.report.opens_to.Goals as goal
