@@ -77,7 +77,8 @@ fn key_frame<C: PacketCipher>(a: &KeyArguments) -> Result<Frame, Failure>
     Ok(Frame::front(&out, length))
 }
 
-// The same, sealed in the mode that the arguments name. A word chooses the type of the packet cipher: as a closure or a `dyn` it would be no plainer.
+// The frame of a data packet, sealed in the mode that the arguments name. A word chooses the type of the packet cipher: as a closure or a `dyn`
+// it would be no plainer.
 pub fn frame_of_data(a: &DataArguments, bytes: &[u8]) -> Result<Frame, Failure>
     ensures frame { result ≡ framed (packed_data (cipher_of a.now.mode) a.now.key a.now.iv (data_packet a.now bytes.now) 304) }
     ensures opens { IfOk result (λ frame. OpensTo (cipher_of a.now.mode) a.now.key a.now.iv (data_contents (data_packet a.now bytes.now)) frame (length frame)) }
