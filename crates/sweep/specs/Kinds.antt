@@ -1,5 +1,5 @@
 -- What the swept memories mean.
-use Rattle.std.specs.Prelude.{ℕ, List}
+use Rattle.std.specs.Prelude.{ℕ, List, codes}
 use Rattle.memory.specs.declared.held.Held.{Held}
 use Rattle.memory.specs.declared.supply.Supply.TheVariants.{NoEnd}
 use Rattle.memory.specs.Lent.{meaning_of}
@@ -9,6 +9,11 @@ use Rattle.rules.specs.Board.{State}
 use Rattle.sweep.specs.Cuts.{board_on}
 use Rattle.sweep.specs.declared.kind.Kind.{Kind}
 use Rattle.sweep.specs.declared.kind.Kind.TheVariants.{Lent, Scrambled}
+
+-- the name of a kind
+abbrev pub kind_text : Kind → List ℕ
+kind_text Lent = codes "the lent image"
+kind_text Scrambled = codes "the scrambler"
 
 -- an image of a kind, with a held record and power without end
 abbrev pub meaning_of_kind : Kind → List ℕ → Held → Meaning

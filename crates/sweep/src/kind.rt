@@ -1,11 +1,11 @@
 // The memories that are swept: the lent image, and the scrambler over it.
-ghost use Rattle.std.specs.Prelude.{◌≡◌, ◌≤◌, length, is_ok, IfOk, OnOk, ◌==◌};
+ghost use Rattle.std.specs.Prelude.{◌≡◌, ◌≤◌, length, is_ok, IfOk, OnOk, Some, ◌==◌};
 ghost use Rattle.cipher.specs.Aes.{aes};
 ghost use Rattle.cipher.specs.Ccm.{ccm};
 ghost use Rattle.memory.specs.Areas.{map_size};
 ghost use Rattle.rules.specs.Board.{run};
 ghost use Rattle.sweep.specs.Cuts.{cut_at, power_back, said_at};
-ghost use Rattle.sweep.specs.Kinds.{board_of_kind};
+ghost use Rattle.sweep.specs.Kinds.{board_of_kind, kind_text};
 ghost use Rattle.sweep.specs.Programs.{prepared_answer};
 
 use crate::cut::{Cut, again, cut_power, steps_of};
@@ -24,6 +24,8 @@ pub enum Kind {
 }
 
 impl fmt::Display for Kind {
+    ghost output = { λ kind. Some (kind_text kind) };
+
     fn fmt<W: fmt::Write>(&self, f: &mut fmt::Formatter<W>) -> fmt::Result {
         f.write_str(match self {
             Kind::Lent => "the lent image",
