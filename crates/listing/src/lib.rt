@@ -5,11 +5,11 @@ mod lines;
 mod rows;
 
 pub use lines::read_line;
-pub use rows::write_row;
+pub use rows::{Detail, write_row};
 
 #[cfg(test)]
 mod tests {
-    use crate::{read_line, write_row};
+    use crate::{Detail, read_line, write_row};
     use fault::Fault;
     use memory::Supply;
     use rules::{Boot, Event};
@@ -45,10 +45,36 @@ mod tests {
     #[test]
     fn writes_rows(rt: HostRuntime) -> Result<(), Fail> {
         let mut out = Vec::new(rt.alloc());
-        write_row(&mut out, 6, None, None, &[0, 128, 5])?;
-        write_row(&mut out, 7, None, Some(Boot::Blank), &[])?;
-        write_row(&mut out, 1_000_010, Some(Fault::NoHeader(1)), None, &[81])?;
-        let rows = b"     6   0   0 128   5\n     7   0   2\n    10  81  81\n";
+        write_row(&mut out, Detail::Number, 6, None, None, &[0, 128, 5])?;
+        write_row(&mut out, Detail::Number, 7, None, Some(Boot::Blank), &[])?;
+        write_row(
+            &mut out,
+            Detail::Number,
+            1_000_010,
+            Some(Fault::NoHeader(1)),
+            None,
+            &[81],
+        )?;
+        write_row(
+            &mut out,
+            Detail::Place,
+            1,
+            Some(Fault::NoHeader(7)),
+            None,
+            &[81],
+        )?;
+        write_row(&mut out, Detail::Place, 2, Some(Fault::BadLine), None, &[])?;
+        write_row(&mut out, Detail::Place, 3, None, Some(Boot::Blank), &[])?;
+        write_row(
+            &mut out,
+            Detail::Place,
+            4,
+            Some(Fault::OutsideArea(0x0100_00FE)),
+            None,
+            &[],
+        )?;
+        let rows =
+            b"     6   0   0 128   5\n     7   0   2\n    10  81  81\n     1  81 frame            7  81\n     2   8 call             0\n     3   0 -                0   2\n     4  23 memory    16777470\n";
         assert_eq!(rt; out.as_slice(), &rows[..]);
         Ok(())
     }
