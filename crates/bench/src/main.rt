@@ -1,7 +1,8 @@
 // bench: reads a listing of calls from standard input, makes them on a fresh board, and prints a row for each line.
 #![tactic(auto)]
 
-ghost use Rattle.std.specs.Prelude.{◌≡◌, length, replicate, Ok};
+ghost use Rattle.std.specs.Prelude.{◌≡◌, length, map, replicate, string_bytes, Ok};
+ghost use Rattle.bench.specs.Words.{detail_asked};
 ghost use Rattle.rules.specs.Promises.{Given, start};
 
 use board::Board;
@@ -31,7 +32,9 @@ fn replay_input(rt: &HostRuntime, detail: Detail) -> anyhow::Result<()> {
 }
 
 // What the rows are to show of refusals; none where the words behind the program's name are no option.
-fn detail_of(words: &[String]) -> Option<Detail> {
+fn detail_of(words: &[String]) -> Option<Detail>
+    ensures { result ≡ detail_asked (map string_bytes words.now) }
+{
     match words {
         [] => Some(Detail::Number),
         [word] if word.as_str() == "--places" => Some(Detail::Place),
