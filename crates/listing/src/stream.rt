@@ -31,7 +31,8 @@ fn next_line<R: BufRead>(input: &mut R, line: &mut Vec<u8>) -> io::Result<bool>
     Ok(matches!(line.pop(), Some(b'\n')))
 }
 
-// Takes the lines that are left, and writes their rows behind those that wait. Says whether it came to the end: not where there are 2^64 - 1 lines.
+// Takes the lines that are left, and writes their rows behind those that wait. Says whether it came to the end: not where there are
+// 2^64 - 1 lines.
 fn replay_lines<M: Memory, C: PacketCipher, R: BufRead, W: Write>(
     heap: Global,
     bench: &mut Bench<M, C>,
