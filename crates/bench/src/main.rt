@@ -1,57 +1,18 @@
 // bench: reads a listing of calls from standard input, makes them on a fresh board, and prints a row for each line.
 #![tactic(auto)]
 
-ghost use Rattle.std.specs.Prelude.{◌≡◌, length, replicate, Ok};
+ghost use Rattle.std.specs.Prelude.{◌≡◌, length, map, replicate, string_bytes, Ok};
+ghost use Rattle.bench.specs.Words.{detail_asked};
 ghost use Rattle.rules.specs.Promises.{Given, start};
 
-mod replay;
-mod waiting;
-
 use board::Board;
-use cipher::{Aes128, BlockCipher, Ccm, PacketCipher};
+use cipher::{Aes128, BlockCipher, Ccm};
 use fault::Fault;
-use memory::{LentImage, MAP_SIZE, Memory};
-use std::io::{BufRead, BufReader, Write};
-use waiting::Bench;
-
-// Reads the next line, without its end; bytes behind the last line end are no line.
-fn next_line<R: BufRead>(input: &mut R, line: &mut Vec<u8>) -> anyhow::Result<bool> {
-    line.clear();
-    input.read_until(b'\n', line)?;
-    Ok(line.pop() == Some(b'\n'))
-}
-
-// Makes the calls that wait, and prints all rows.
-fn print_rows<M: Memory, C: PacketCipher>(
-    rt: &HostRuntime,
-    bench: &mut Bench<M, C>,
-) -> anyhow::Result<()> {
-    bench.make_calls(rt.alloc())?;
-    rt.stdout().write_all(bench.rows())?;
-    bench.clear_rows();
-    Ok(())
-}
-
-// Replays the listing on standard input on a board.
-fn replay_input<M: Memory + Drop, C: PacketCipher>(
-    rt: &HostRuntime,
-    board: Board<M, C>,
-) -> anyhow::Result<()> {
-    let mut bench = Bench::new(rt.alloc(), board);
-    let mut input = BufReader::new(rt.alloc(), rt.stdin())?;
-    let mut line = Vec::new(rt.alloc());
-    // Not the reader's lines(): it would also yield bytes after the last line end.
-    for _ in 0..u64::MAX {
-        if !next_line(&mut input, &mut line)? {
-            break;
-        }
-        bench.line(rt.alloc(), &line)?;
-        if bench.is_full() {
-            print_rows(rt, &mut bench)?;
-        }
-    }
-    print_rows(rt, &mut bench)
-}
+use listing::{Detail, replay_listing};
+use memory::{LentImage, MAP_SIZE};
+use std::env;
+use std::io::BufReader;
+use std::process::ExitCode;
 
 // The board that a listing begins on: a fresh one, with the image all 0xFF and keys of zeros.
 fn first_board(image: &mut [u8]) -> Result<Board<LentImage<'_>, Ccm<Aes128>>, Fault>
@@ -61,7 +22,32 @@ fn first_board(image: &mut [u8]) -> Result<Board<LentImage<'_>, Ccm<Aes128>>, Fa
     Board::fresh(image, [0; 16], [0; 16])
 }
 
-fn main(rt: HostRuntime) -> anyhow::Result<()> {
+// Replays the listing on standard input on a fresh board, and prints its rows.
+fn replay_input(rt: &HostRuntime, detail: Detail) -> anyhow::Result<()> {
     let mut image = vec![in rt.alloc(); 0u8; MAP_SIZE]?;
-    replay_input(&rt, first_board(&mut image)?)
+    let board = first_board(&mut image)?;
+    let mut input = BufReader::new(rt.alloc(), rt.stdin())?;
+    replay_listing(rt.alloc(), board, detail, &mut input, &mut rt.stdout())?;
+    Ok(())
+}
+
+// What the rows are to show of refusals; none where the words behind the program's name are no option.
+fn detail_of(words: &[String]) -> Option<Detail>
+    ensures { result ≡ detail_asked (map string_bytes words.now) }
+{
+    match words {
+        [] => Some(Detail::Number),
+        [word] if word.as_str() == "--places" => Some(Detail::Place),
+        _ => None,
+    }
+}
+
+fn main(rt: HostRuntime) -> anyhow::Result<ExitCode> {
+    let words: Vec<String> = env::args(&rt)?.collect(rt.alloc())?;
+    let Some(detail) = detail_of(words.get(1..).unwrap_or(&[])) else {
+        eprintln!(rt; "usage: bench [--places] < LISTING")?;
+        return Ok(ExitCode::FAILURE);
+    };
+    replay_input(&rt, detail)?;
+    Ok(ExitCode::SUCCESS)
 }
