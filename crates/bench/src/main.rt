@@ -1,7 +1,7 @@
 // bench: reads a listing of calls from standard input, makes them on a fresh board, and prints a row for each line.
 #![tactic(auto)]
 
-ghost use Rattle.std.specs.Prelude.{◌≡◌, length, map, replicate, string_bytes, Ok};
+ghost use Rattle.std.specs.Prelude.{◌≡◌, map, replicate, string_bytes};
 ghost use Rattle.bench.specs.Words.{detail_asked};
 ghost use Rattle.rules.specs.Promises.{Given, start};
 
@@ -9,14 +9,14 @@ use board::Board;
 use cipher::{Aes128, BlockCipher, Ccm};
 use fault::Fault;
 use listing::{Detail, replay_listing};
-use memory::{LentImage, MAP_SIZE};
+use memory::{LentImage, MAP_SIZE, sized};
 use std::env;
 use std::io::BufReader;
 use std::process::ExitCode;
 
 // The board that a listing begins on: a fresh one, with the image all 0xFF and keys of zeros.
-fn first_board(image: &mut [u8]) -> Result<Board<LentImage<'_>, Ccm<Aes128>>, Fault>
-    ensures { (g : Given) → g.image ≡ replicate (length image.old) 0xFF → g.data_key_bytes ≡ replicate 16 0 → g.kek_bytes ≡ replicate 16 0 → result ≡ Ok (start g) }
+fn first_board(image: &mut [u8; MAP_SIZE]) -> Board<LentImage<'_>, Ccm<Aes128>>
+    ensures { (g : Given) → g.image ≡ replicate 61056 0xFF → g.data_key_bytes ≡ replicate 16 0 → g.kek_bytes ≡ replicate 16 0 → result ≡ start g }
 {
     image.fill(0xFF);
     Board::fresh(image, [0; 16], [0; 16])
@@ -25,7 +25,8 @@ fn first_board(image: &mut [u8]) -> Result<Board<LentImage<'_>, Ccm<Aes128>>, Fa
 // Replays the listing on standard input on a fresh board, and prints its rows.
 fn replay_input(rt: &HostRuntime, detail: Detail) -> anyhow::Result<()> {
     let mut image = vec![in rt.alloc(); 0u8; MAP_SIZE]?;
-    let board = first_board(&mut image)?;
+    let image = sized(&mut image).ok_or(Fault::ImageSize)?;
+    let board = first_board(image);
     let mut input = BufReader::new(rt.alloc(), rt.stdin())?;
     replay_listing(rt.alloc(), board, detail, &mut input, &mut rt.stdout())?;
     Ok(())

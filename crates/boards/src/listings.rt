@@ -3,7 +3,7 @@ use board::Board;
 use cipher::{Aes128, BlockCipher, Ccm};
 use fault::Fault;
 use listing::{Detail, read_line, replay_listing, write_row};
-use memory::{LentImage, MAP_SIZE, Memory, Supply};
+use memory::{LentImage, MAP_SIZE, Powered, Supply, sized};
 use rules::{Boot, Event};
 use std::io::{self, BufRead, BufReader, Read, Write};
 use std::test::Fail;
@@ -60,7 +60,8 @@ fn replays<R: BufRead, W: Write>(
     output: &mut W,
 ) -> Result<bool, Fail> {
     let mut image = vec![in rt.alloc(); 0xFFu8; MAP_SIZE]?;
-    let board: Board<LentImage<'_>, Ccm<Aes128>> = Board::fresh(&mut image, [0; 16], [0; 16])?;
+    let image = sized(&mut image).ok_or(Fault::ImageSize)?;
+    let board: Board<LentImage<'_>, Ccm<Aes128>> = Board::fresh(image, [0; 16], [0; 16]);
     Ok(replay_listing(rt.alloc(), board, Detail::Number, input, output).is_ok())
 }
 

@@ -5,7 +5,7 @@ ghost use Rattle.listing.specs.Replaying.{Printed, Replayed, next_number};
 use crate::rows::{Detail, write_row};
 use board::{Answer, Board};
 use cipher::PacketCipher;
-use memory::Memory;
+use memory::Powered;
 use rules::Event;
 use std::alloc::{AllocError, Global};
 
@@ -42,7 +42,7 @@ fn write_rows(
 }
 
 // Makes the calls on the board, appends a row for each, numbered from `number` on, and says the number after the last.
-pub fn replay<M: Memory, C: PacketCipher>(
+pub fn replay<M: Powered, C: PacketCipher>(
     heap: Global,
     board: &mut Board<M, C>,
     events: &[Event],

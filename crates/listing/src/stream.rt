@@ -9,7 +9,7 @@ use crate::rows::Detail;
 use crate::waiting::Bench;
 use board::Board;
 use cipher::PacketCipher;
-use memory::Memory;
+use memory::Powered;
 use std::alloc::Global;
 use std::io::{self, BufRead, Write};
 
@@ -33,7 +33,7 @@ fn next_line<R: BufRead>(input: &mut R, line: &mut Vec<u8>) -> io::Result<bool>
 
 // Takes the lines that are left, and writes their rows behind those that wait. Says whether it came to the end: not where there are
 // 2^64 - 1 lines.
-fn replay_lines<M: Memory, C: PacketCipher, R: BufRead, W: Write>(
+fn replay_lines<M: Powered, C: PacketCipher, R: BufRead, W: Write>(
     heap: Global,
     bench: &mut Bench<M, C>,
     input: &mut R,
@@ -56,7 +56,7 @@ fn replay_lines<M: Memory, C: PacketCipher, R: BufRead, W: Write>(
 }
 
 // Replays a listing on a board: reads it to its end and writes the rows of all its lines, in order. An error in reading or writing is its error.
-pub fn replay_listing<M: Memory + Drop, C: PacketCipher, R: BufRead, W: Write>(
+pub fn replay_listing<M: Powered + Drop, C: PacketCipher, R: BufRead, W: Write>(
     heap: Global,
     board: Board<M, C>,
     detail: Detail,

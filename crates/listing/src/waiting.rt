@@ -10,14 +10,14 @@ use crate::replay::{number_after, replay};
 use crate::rows::{Detail, write_row};
 use board::Board;
 use cipher::PacketCipher;
-use memory::Memory;
+use memory::Powered;
 use rules::Event;
 use std::alloc::{AllocError, Global};
 use std::io::{self, Write};
 
 // A board, what rows show of refusals, the calls that wait, the number of the first of them, and rows that are not yet printed.
 #[derive(Drop)]
-pub(crate) struct Bench<M: Memory, C: PacketCipher> {
+pub(crate) struct Bench<M: Powered, C: PacketCipher> {
     board: Board<M, C>,
     detail: Detail,
     events: Vec<Event>,
@@ -25,7 +25,7 @@ pub(crate) struct Bench<M: Memory, C: PacketCipher> {
     rows: Vec<u8>,
 }
 
-impl<M: Memory, C: PacketCipher> Bench<M, C> {
+impl<M: Powered, C: PacketCipher> Bench<M, C> {
     // A listing that has not begun; its events are numbered from 1.
     pub(crate) fn new(heap: Global, board: Board<M, C>, detail: Detail) -> Bench<M, C>
         ensures { reached_by C.cipher result ≡ beginning detail board }
