@@ -51,7 +51,9 @@ drops() {
 }
 
 modules store_unopened=unknown-method store_unjudged=unknown-method store_forged=private-field store_key_unjudged=unknown-method \
-    set_supply_while_obeying=unknown-method ask_supply_while_obeying=unknown-method
+    set_supply_while_obeying=unknown-method ask_supply_while_obeying=unknown-method \
+    forge_core_command=private-field forge_opened=private-field forge_judged_key=private-field \
+    reach_into_image=private-field change_fixed_byte=private-field
 modules store_twice=borrow-e0382 store_key_twice=borrow-e0382 open_twice=borrow-e0382 copy_opened=borrow-e0382 copy_judged=borrow-e0382
 
 restore

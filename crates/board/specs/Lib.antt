@@ -13,3 +13,4 @@ pub mod Buffers
 pub mod Sending
 pub mod State
 pub mod Running
+pub mod Whole

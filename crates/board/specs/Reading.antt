@@ -6,7 +6,7 @@ use Rattle.rules.specs.Receiver.Receiver.{idle, length_low, length_high, body, c
 use Rattle.rules.specs.Receiver.Read.{waits, bad, good}
 use Rattle.board.specs.declared.receiver.Progress.{Progress}
 use Rattle.board.specs.declared.receiver.Progress.TheVariants.{Idle, LengthLow, LengthHigh, Body, CheckLow, CheckHigh}
-use Rattle.board.specs.declared.core_command.CoreCommand.{CoreCommand}
+use Rattle.board.specs.declared.receiver.core_command.CoreCommand.{CoreCommand}
 use Rattle.board.specs.declared.receiver.Receiver.{Receiver}
 
 -- the receiver of the rules, from how far it is and the bytes of the core command so far

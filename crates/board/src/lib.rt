@@ -8,7 +8,6 @@ mod board;
 mod boot;
 mod calls;
 mod contents;
-mod core_command;
 mod data;
 mod device;
 mod fresh;

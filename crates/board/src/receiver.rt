@@ -4,6 +4,7 @@ ghost use Rattle.board.specs.Progress.{sound};
 
 use buffer::Buffer;
 
+pub(crate) mod core_command;
 mod idle;
 mod reading;
 

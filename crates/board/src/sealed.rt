@@ -5,7 +5,7 @@ ghost use Rattle.board.specs.Judging.{sized};
 ghost use Rattle.board.specs.Opening.{with_work, opened_by};
 ghost use Rattle.board.specs.Outcomes.{done};
 
-use crate::core_command::CoreCommand;
+use crate::receiver::core_command::CoreCommand;
 use crate::work::WORK;
 use cipher::PacketCipher;
 use fault::Fault;

@@ -3,6 +3,7 @@ use Rattle.std.specs.Prelude.{◌≡◌, ℕ, suc, ◌+◌, ◌%◌, List, [], �
 use Rattle.std.proofs.Common.{ap, ◌∙◌}
 use Rattle.memory.specs.Areas.{address_at, map_size}
 use Rattle.memory.specs.Meaning.{Contents, Meaning, with_image}
+use Rattle.memory.specs.declared.scrambler.Scrambler.{Scrambler}
 
 -- what the byte at an address is kept XOR: its address mod 256, and one fixed byte
 abbrev pub mask : ℕ → ℕ → ℕ
@@ -24,6 +25,10 @@ clear_contents f c = with_image (clear f c.image) c
 -- what a scrambled memory means
 abbrev pub clear_meaning : ℕ → Meaning → Meaning
 clear_meaning f m = record { contents = clear_contents f m.contents; supply = m.supply }
+
+-- a scrambler made anew of its fields: it has no other
+abbrev pub scrambler_whole : {M : Type 0} → Scrambler M → Scrambler M
+scrambler_whole s = record { below = s.below; fixed = s.fixed }
 
 -- the clear image is as long as the one that is kept
 as_long : (f p : ℕ) (xs : List ℕ) → length (clear_from f p xs) ≡ length xs

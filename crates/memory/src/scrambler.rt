@@ -1,6 +1,6 @@
 // A scrambler over any memory: each byte below is kept XOR (its address mod 256) XOR one fixed byte.
 ghost use Rattle.std.specs.Prelude.{◌≡◌};
-ghost use Rattle.memory.specs.Scrambled.{clear_long, clear_meaning, mask};
+ghost use Rattle.memory.specs.Scrambled.{clear_long, clear_meaning, mask, scrambler_whole};
 
 use crate::areas::{VECTOR_HIGH, VECTOR_LOW};
 use crate::held::{Held, KeyRecord, KeySlot};
@@ -24,7 +24,8 @@ pub struct Scrambler<M: Memory> {
 impl<M: Memory> Scrambler<M> {
     // A scrambler over a memory, whose fixed byte stays the same.
     pub fn over(below: M, fixed: u8) -> Scrambler<M>
-        ensures { clear_meaning result.fixed (M.Memory.meaning result.below) ≡ clear_meaning fixed (M.Memory.meaning below) }
+        ensures meaning { clear_meaning result.fixed (M.Memory.meaning result.below) ≡ clear_meaning fixed (M.Memory.meaning below) }
+        ensures whole { scrambler_whole result ≡ result }
     {
         Scrambler { below, fixed }
     }

@@ -6,7 +6,7 @@ ghost use Rattle.board.specs.Outcomes.{lit};
 ghost use Rattle.board.specs.Sending.{obeyed};
 
 use super::Device;
-use crate::core_command::CoreCommand;
+use crate::receiver::core_command::CoreCommand;
 use crate::reply::Reply;
 use crate::work::WORK;
 use cipher::PacketCipher;

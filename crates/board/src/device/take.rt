@@ -6,9 +6,9 @@ ghost use Rattle.rules.specs.Memory.{key_record};
 ghost use Rattle.board.specs.Outcomes.{lit, packet_outcome};
 
 use super::Device;
-use crate::core_command::CoreCommand;
 use crate::data::Opened;
 use crate::key::OpenedKey;
+use crate::receiver::core_command::CoreCommand;
 use crate::sealed::{SealedData, SealedKey};
 use crate::work::WORK;
 use cipher::PacketCipher;

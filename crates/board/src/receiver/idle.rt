@@ -2,13 +2,15 @@
 ghost use Rattle.std.specs.Prelude.{◌≡◌};
 ghost use Rattle.rules.specs.Receiver.Receiver.{idle};
 ghost use Rattle.board.specs.Reading.{receiver_of};
+ghost use Rattle.board.specs.Whole.{receiver_whole};
 
 use super::{Progress, Receiver};
 use buffer::Buffer;
 
 impl Receiver {
     pub(crate) fn idle() -> Receiver
-        ensures { receiver_of result ≡ idle }
+        ensures idle { receiver_of result ≡ idle }
+        ensures whole { receiver_whole result ≡ result }
     {
         Receiver {
             progress: Progress::Idle,

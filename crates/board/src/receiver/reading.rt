@@ -3,8 +3,8 @@ ghost use Rattle.std.specs.Prelude.{◌≡◌};
 ghost use Rattle.rules.specs.Receiver.{read};
 ghost use Rattle.board.specs.Reading.{left_by, answer_by, handed, receiver_of};
 
+use super::core_command::CoreCommand;
 use super::{Progress, Receiver};
-use crate::core_command::CoreCommand;
 use fault::Fault;
 use wire::checksum::checksum;
 

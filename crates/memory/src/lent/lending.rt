@@ -2,7 +2,7 @@
 ghost use Rattle.std.specs.Prelude.{◌≡◌, length, is_some, IfSome, ◌==◌};
 ghost use Rattle.std.specs.Borrow.{sem, Array, LendsIf, u8};
 ghost use Rattle.memory.specs.Areas.{map_size};
-ghost use Rattle.memory.specs.Lent.{lent_long, lent_meaning, meaning_of};
+ghost use Rattle.memory.specs.Lent.{lent_long, lent_meaning, lent_whole, meaning_of};
 
 use super::LentImage;
 use crate::areas::{MAP_SIZE, place_of};
@@ -30,6 +30,7 @@ impl<'a> LentImage<'a> {
     // A memory on an image, with a held record and a supply.
     pub fn over(image: &'a mut [u8; MAP_SIZE], held: Held, supply: Supply) -> LentImage<'a>
         ensures meaning { lent_meaning result ≡ meaning_of image.old held supply }
+        ensures whole { lent_whole result ≡ result }
         ensures reference { result.image.ghost_name ≡ image.entry.ghost_name }
     {
         LentImage {

@@ -8,5 +8,5 @@ use Rattle.board.proofs.board.Board.new.Goals as goal
 pub returns : goal.returns
 unfolding fresh
 returns g c =
-    let e = ap₂ (λ w r. board_of w r false) c.new.ensures c.idle.ensures in
+    let e = ap₂ (λ w r. board_of w r false) c.new.ensures c.idle.ensures.idle in
     record { state = e; fresh = λ k h. e ∙ ap (λ x. lit_board x Closed) h }

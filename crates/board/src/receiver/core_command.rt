@@ -1,4 +1,4 @@
-// A core command that has arrived. It moves: what opens it or obeys it uses it up.
+// A core command that has arrived. Only the receiver makes one, and it moves: what opens it or obeys it uses it up.
 ghost use Rattle.std.specs.Prelude.{◌≡◌, ◌<◌, ◌≤◌, length};
 ghost use Rattle.rules.specs.Commands.{alone, command};
 
@@ -7,7 +7,7 @@ use rules::Command;
 
 #[derive(Drop)]
 pub(crate) struct CoreCommand {
-    pub(crate) buffer: Buffer<299>,
+    pub(super) buffer: Buffer<299>,
     ghost sized: { (0 < length buffer) × (length buffer ≤ 299) },
 }
 
@@ -24,10 +24,13 @@ fn alone(byte: u8) -> Command
 }
 
 impl CoreCommand {
+    ghost use Rattle.board.specs.Whole.{core_whole};
+
     // Its bytes, of which there are 1 to 299.
     pub(crate) fn bytes(&self) -> &[u8]
         ensures bytes { result.now ≡ self.now.buffer }
         ensures sized { (0 < length self.now.buffer) × (length self.now.buffer ≤ 299) }
+        ensures whole { core_whole self.now ≡ self.now }
     {
         self.buffer.as_slice()
     }

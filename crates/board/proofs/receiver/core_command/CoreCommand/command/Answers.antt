@@ -1,7 +1,7 @@
 use Rattle.std.proofs.Common.{ap, ◌∙◌, arith}
 use Rattle.rules.specs.Commands.{command}
 use Rattle.board.proofs.Commanding.{command_alone, command_data, command_key, command_longer}
-use Rattle.board.proofs.core_command.CoreCommand.command.Goals as goal
+use Rattle.board.proofs.receiver.core_command.CoreCommand.command.Goals as goal
 
 pub returns-in-48 : goal.returns-in-48
 returns-in-48 c = command_data c.bytes.result.now (omega arith) (cc) ∙ ap command c.bytes.ensures.bytes
