@@ -54,7 +54,7 @@ modules store_unopened=unknown-method store_unjudged=unknown-method store_forged
     set_supply_while_obeying=unknown-method ask_supply_while_obeying=unknown-method \
     forge_core_command=private-field forge_opened=private-field forge_judged_key=private-field \
     reach_into_image=private-field change_fixed_byte=private-field
-modules store_twice=borrow-e0382 store_key_twice=borrow-e0382 open_twice=borrow-e0382 copy_opened=borrow-e0382 copy_judged=borrow-e0382
+modules store_twice=borrow-e0382 store_key_twice=borrow-e0382 open_twice=borrow-e0382 open_again=borrow-e0382 copy_opened=borrow-e0382 copy_judged=borrow-e0382
 
 restore
 drops drop_lent_image=memory/src/lent.rt

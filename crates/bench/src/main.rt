@@ -1,7 +1,7 @@
 // bench: reads a listing of calls from standard input, makes them on a fresh board, and prints a row for each line.
 #![tactic(auto)]
 
-ghost use Rattle.std.specs.Prelude.{◌≡◌, map, replicate, string_bytes};
+ghost use Rattle.std.specs.Prelude.{◌≡◌, length, map, replicate, string_bytes};
 ghost use Rattle.bench.specs.Words.{detail_asked};
 ghost use Rattle.rules.specs.Promises.{Given, start};
 
@@ -16,7 +16,7 @@ use std::process::ExitCode;
 
 // The board that a listing begins on: a fresh one, with the image all 0xFF and keys of zeros.
 fn first_board(image: &mut [u8; MAP_SIZE]) -> Board<LentImage<'_>, Ccm<Aes128>>
-    ensures { (g : Given) → g.image ≡ replicate 61056 0xFF → g.data_key_bytes ≡ replicate 16 0 → g.kek_bytes ≡ replicate 16 0 → result ≡ start g }
+    ensures { (g : Given) → g.image ≡ replicate (length image.old) 0xFF → g.data_key_bytes ≡ replicate 16 0 → g.kek_bytes ≡ replicate 16 0 → result ≡ start g }
 {
     image.fill(0xFF);
     Board::fresh(image, [0; 16], [0; 16])
