@@ -1,4 +1,4 @@
+pub mod Asking
+pub mod Cutting
 pub mod Fillers
-pub mod Preparing
 pub mod Sending
-pub mod Sweepings
