@@ -1,7 +1,10 @@
 #!/bin/sh
-# What the program pack says to key packets, to what it refuses and to malformed arguments, and its status then. It needs crates/pack/out/pack. The
-# frames are those of the second implementation (`peer answers`).
+# What the program pack says to packets of all kinds, to what it refuses and to malformed arguments, each on the stream where it belongs, and its
+# status then. It needs crates/pack/out/pack. The frames are those of the second implementation (`peer answers`); one is asked of it here, and needs
+# target/peer/release/peer.
 cd "$(dirname "$0")/.."
+streams=$(mktemp -d)
+trap 'rm -rf "$streams"' EXIT
 key=000102030405060708090A0B0C0D0E0F
 ccm=01000000000000000000000000010000
 gcm=00112233445566778899AABB00000001
@@ -10,18 +13,30 @@ keys='usage: pack key CIPHER KEK IV KT KV KEY'
 both="$data, or pack key CIPHER KEK IV KT KV KEY"
 failed=0
 
-# expect TEXT STATUS WORDS..: all that pack writes, on both streams, and its status
-expect() {
-    want=$1 status=$2
-    shift 2
-    got=$(crates/pack/out/pack "$@" 2>&1)
+# packs OUT ERR STATUS WORDS..: all that pack writes on standard output and on standard error, and its status
+packs() {
+    out=$1 err=$2 status=$3
+    shift 3
+    crates/pack/out/pack "$@" > "$streams/out" 2> "$streams/err"
     code=$?
-    if [ "$got" != "$want" ] || [ $code != "$status" ]; then
+    if [ "$(cat "$streams/out")" != "$out" ] || [ "$(cat "$streams/err")" != "$err" ] || [ $code != "$status" ]; then
         echo "tests/refusals.sh: pack $*"
-        echo "  wanted ($status): $want"
-        echo "  got ($code): $got"
+        echo "  wanted ($status): $out"
+        echo "  on standard error: $err"
+        echo "  got ($code): $(cat "$streams/out")"
+        echo "  on standard error: $(cat "$streams/err")"
         failed=1
     fi
+}
+
+# expect TEXT STATUS WORDS..: the text on standard output alone, or on standard error alone where an argument is malformed
+expect() {
+    text=$1 status=$2
+    shift 2
+    case $text in
+        malformed:*) packs '' "$text" "$status" "$@" ;;
+        *) packs "$text" '' "$status" "$@" ;;
+    esac
 }
 
 long=$(printf '%0514d' 0)
@@ -66,6 +81,45 @@ expect 'Packed a key packet: data key of version 9, sealed with AES-128 CCM, in 
 9B FA D7 5B 53 66 CA E7 F6 E3 CC C1 96 3C 6F B2
 F0 F3 C2 99 2B D1 DF 90
 The frame opened again to the same contents.' 0 key ccm $key $ccm 0 9 $new
+
+# data packets: with GCM; in the upper area; of version 10; of number 300 of 311
+expect 'Packed data packet 1 of 1 of version 7: 8 bytes for 0x04400, sealed with AES-128 GCM, in a frame of 56 bytes:
+80 33 00 30 00 11 22 33 44 55 66 77 88 99 AA BB
+00 00 00 01 EA D2 4B 6B 97 E0 AE 06 BD 6A 74 E8
+65 BF 38 71 B4 B2 16 E0 E7 DF 93 4D 31 E8 05 77
+EF 93 00 41 1C AB F3 49
+The frame opened again to the same contents.' 0 data gcm $key $gcm 7 1 1 0x4400 726F617374203700
+expect 'Packed data packet 1 of 1 of version 7: 8 bytes for 0x10000, sealed with AES-128 CCM, in a frame of 56 bytes:
+80 33 00 30 01 00 00 00 00 00 00 00 00 00 00 00
+00 01 00 00 BA 66 6F 41 2F 77 51 50 8B EF 04 10
+00 72 5F 86 9A 99 F5 2D 3C A7 C9 93 9D 26 1F EE
+D0 6A E4 C3 71 E1 82 24
+The frame opened again to the same contents.' 0 data ccm $key $ccm 7 1 1 0x10000 726F617374203700
+expect 'Packed data packet 1 of 1 of version 7: 8 bytes for 0x13FF8, sealed with AES-128 GCM, in a frame of 56 bytes:
+80 33 00 30 00 11 22 33 44 55 66 77 88 99 AA BB
+00 00 00 01 EA D2 4B 6B 97 E0 AE FE C6 6B 74 E8
+65 BF 38 71 B4 B2 F4 C8 A4 10 C7 02 E6 6F 7A 92
+AC 5F A9 54 8D 68 EF 6A
+The frame opened again to the same contents.' 0 data gcm $key $gcm 7 1 1 0x13FF8 726f617374203700
+expect 'Packed data packet 1 of 1 of version 10: 8 bytes for 0x04400, sealed with AES-128 CCM, in a frame of 56 bytes:
+80 33 00 30 01 00 00 00 00 00 00 00 00 00 00 00
+00 01 00 00 B7 66 6F 41 2F 77 51 50 CF EE 04 10
+00 72 5F 86 9A 99 E7 F0 2F 6C E9 30 DF EB 16 ED
+33 1A 5D D0 6A A7 4D 20
+The frame opened again to the same contents.' 0 data ccm $key $ccm 10 1 1 0x4400 726F617374203700
+expect 'Packed data packet 300 of 311 of version 7: 8 bytes for 0x04400, sealed with AES-128 CCM, in a frame of 56 bytes:
+80 33 00 30 01 00 00 00 00 00 00 00 00 00 00 00
+00 01 00 00 BA 4B 6E 77 2E 77 51 50 CF EE 04 10
+00 72 5F 86 9A 99 E4 0A 7D 32 FB 67 D8 52 E2 15
+04 59 85 39 7E 1F 38 DC
+The frame opened again to the same contents.' 0 data ccm $key $ccm 7 300 311 0x4400 726F617374203700
+
+# one of 256 bytes, each of another value, as the second implementation packs it
+most=$(i=0; while [ $i -lt 256 ]; do printf '%02X' $i; i=$((i + 1)); done)
+frame=$(echo "data gcm $key $gcm 255 65535 65535 81920 304 $most" | target/peer/release/peer answers | sed 's/../& /g' | fold -w 48 | sed 's/ $//')
+expect "Packed data packet 65535 of 65535 of version 255: 256 bytes for 0x14000, sealed with AES-128 GCM, in a frame of 304 bytes:
+$frame
+The frame opened again to the same contents." 0 data gcm $key $gcm 255 65535 65535 0x14000 "$most"
 
 [ $failed = 0 ] && echo 'tests/refusals.sh: all as expected'
 exit $failed

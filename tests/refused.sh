@@ -1,39 +1,78 @@
 #!/bin/sh
-# Programs that must not build: each text in tests/refused is put into a copy of crates/board, and the compiler must refuse it at a
-# place in it, by the error named here. It compiles, and proves nothing.
+# Programs that must not build. A text of tests/refused becomes a module of a copy of crates/board, or the `Drop` of a struct in place of the
+# derived one, and the compiler must refuse it at a place in it, by the error named here. It compiles, and proves nothing.
 cd "$(dirname "$0")/.."
 copy=$(mktemp -d)
 trap 'rm -rf "$copy"' EXIT
-tar --exclude=out -cf - crates crates.txt | tar -C "$copy" -xf -
-echo 'mod refused;' >> "$copy/crates/board/src/lib.rt"
 failed=0
 
-# builds the board's tests, with the copy's text in crates/board
-build() {
-    cd "$copy/crates/boards" && rt try --test 2>&1
+# the crates as they are
+restore() {
+    rm -rf "$copy/crates"
+    tar --exclude=out -cf - crates crates.txt | tar -C "$copy" -xf -
 }
 
-# expect NAME ERROR: the compiler refuses the text at a place in it, by that error
+# compiles the board's tests, and what they stand on
+build() {
+    (cd "$copy/crates/boards" && rt try --test 2>&1)
+}
+
+# expect ERROR FILE: the compiler refused something in the file by that error
 expect() {
-    cp "tests/refused/$1.txt" "$copy/crates/board/src/refused.rt"
-    got=$(build)
-    if ! echo "$got" | grep -q "src/refused.rt:[0-9]*:[0-9]*: error\[$2\]"; then
-        echo "tests/refused.sh: $1 is not refused by $2:"
+    if ! echo "$got" | grep -q "$2:[0-9]*:[0-9]*: error\[$1\]"; then
+        echo "tests/refused.sh: $2 is not refused by $1:"
         echo "$got" | tail -5
         failed=1
     fi
 }
 
-expect store_unopened unknown-method
-expect store_unjudged unknown-method
-expect store_twice borrow-e0382
-expect store_forged private-field
-expect store_key_unjudged unknown-method
-expect store_key_twice borrow-e0382
+# modules NAME=ERROR..: each text as a module of crates/board, all in one build; the errors are of one phase of the compiler
+modules() {
+    restore
+    for case in "$@"; do
+        name=${case%=*}
+        cp "tests/refused/$name.txt" "$copy/crates/board/src/$name.rt"
+        echo "mod $name;" >> "$copy/crates/board/src/lib.rt"
+    done
+    got=$(build)
+    for case in "$@"; do
+        expect "${case#*=}" "src/${case%=*}.rt"
+    done
+}
 
-# the same crate with a harmless module builds, so that it is the texts that are refused
-printf '// Nothing.\n' > "$copy/crates/board/src/refused.rt"
-if ! (build) > /dev/null; then
+# drops NAME=FILE..: each text as the `Drop` of the struct in that file, in place of the derived one; each is refused where the struct is taken
+# apart, in the file named behind, by the error named last
+drops() {
+    for case in "$@"; do
+        file=${case#*=}
+        sed -i '/^#\[derive(Drop)\]$/d' "$copy/crates/$file"
+        cat "tests/refused/${case%=*}.txt" >> "$copy/crates/$file"
+    done
+}
+
+modules store_unopened=unknown-method store_unjudged=unknown-method store_forged=private-field store_key_unjudged=unknown-method \
+    set_supply_while_obeying=unknown-method ask_supply_while_obeying=unknown-method
+modules store_twice=borrow-e0382 store_key_twice=borrow-e0382 open_twice=borrow-e0382 copy_opened=borrow-e0382 copy_judged=borrow-e0382
+
+restore
+drops drop_lent_image=memory/src/lent.rt
+got=$(build)
+expect borrow-e0713 src/lent/lending.rt
+
+restore
+drops drop_scrambler=memory/src/scrambler.rt
+got=$(build)
+expect move-out-of-place src/scrambler.rt
+
+restore
+drops drop_device=board/src/device.rt drop_board=board/src/board.rt
+got=$(build)
+expect move-out-of-place src/device.rt
+expect move-out-of-place src/board.rt
+
+# the crates build as they are, so that it is the texts that are refused
+restore
+if ! build > /dev/null; then
     echo 'tests/refused.sh: the copy does not build even without those texts'
     failed=1
 fi

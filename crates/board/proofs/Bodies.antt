@@ -1,14 +1,21 @@
 -- One byte more of a body.
-use Rattle.std.proofs.Common.{◌≡◌, ℕ, suc, ◌<◌, ◌≤◌, true, cond, eqb, ltb, leb, List, [], ◌∷◌, ◌++◌, length, take, sym, ap, ◌∙◌, arith, length-append}
+use Rattle.std.proofs.Common.{◌≡◌, ℕ, suc, ◌<◌, ◌≤◌, true, cond, eqb, ltb, leb, List, [], ◌∷◌, ◌++◌, length, take, refl, sym, ap, ◌∙◌, arith, length-append}
 use Rattle.std.proofs.lemmas.List.{take_all}
-use Rattle.std.proofs.lemmas.Bool.{and_from, and_parts, cond-true, cond-false, eq-eqb, le-leb, leb-true, lt-ltb, ltb-true, ne_eqb}
+use Rattle.std.proofs.lemmas.Bool.{and_from, and_parts, cond-true, cond-false, eq-eqb, eqb-true, le-leb, leb-true, lt-ltb, ltb-true, ne_eqb}
 use Rattle.rules.specs.Receiver.{read}
 use Rattle.rules.specs.Receiver.Read.{waits}
 use Rattle.rules.specs.Receiver.Receiver.{body, check_low}
 use Rattle.board.specs.declared.receiver.Progress.{Progress}
-use Rattle.board.specs.declared.receiver.Progress.TheVariants.{Body}
+use Rattle.board.specs.declared.receiver.Progress.TheVariants.{Body, LengthHigh}
 use Rattle.board.specs.Progress.{sound}
 use Rattle.board.specs.Reading.{receiver_at}
+
+-- nothing is held before the body
+pub none_yet : (p : Progress) (xs : List ℕ) (low : ℕ) → p ≡ LengthHigh low → sound p (length xs) ≡ true → xs ≡ []
+none_yet p [] low at fits = refl
+none_yet p (x ∷ xs) low at fits =
+    let h : length (x ∷ xs) ≡ 0 = eqb-true _ _ (ap (λ q. sound q (length (x ∷ xs))) (sym at) ∙ fits) in
+    absurd (omega (arith, h))
 
 module _ (p : Progress) (xs ys : List ℕ) (n b : ℕ) (at : p ≡ Body n) (fits : sound p (length xs) ≡ true) (pushed : ys ≡ take 299 (xs ++ b ∷ [])) where
   bounds : (length xs < n) × (n ≤ 299)

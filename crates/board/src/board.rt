@@ -48,12 +48,6 @@ impl<M: Memory, C: PacketCipher> Board<M, C> {
     pub fn into_memory(self) -> M
         ensures { M.Memory.meaning result ≡ memory_of self }
     {
-        let Board {
-            device,
-            receiver: _,
-            dark: _,
-            cipher: _,
-        } = self;
-        device.into_memory()
+        self.device.into_memory()
     }
 }

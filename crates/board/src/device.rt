@@ -51,7 +51,6 @@ impl<M: Memory> Device<M> {
     pub(crate) fn into_memory(self) -> M
         ensures { M.Memory.meaning result ≡ self.memory }
     {
-        let Device { memory, session: _ } = self;
-        memory
+        self.memory
     }
 }

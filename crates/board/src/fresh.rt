@@ -18,10 +18,6 @@ impl<'a, C: PacketCipher> Board<LentImage<'a>, C> {
         ensures examples { CheckedExamples }
         ensures fresh { (g : Given) → g.image ≡ image.old → g.data_key_bytes ≡ key → g.kek_bytes ≡ kek → result ≡ start g }
     {
-        Board::new(LentImage::over(
-            image,
-            Held::fresh(key, kek),
-            Supply::NoEnd,
-        ))
+        Board::new(LentImage::over(image, Held::fresh(key, kek), Supply::NoEnd))
     }
 }

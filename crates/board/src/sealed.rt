@@ -50,8 +50,8 @@ impl<const LEAST: usize, const MOST: usize> Sealed<LEAST, MOST> {
         work: &mut [u8; WORK],
     ) -> Result<usize, Fault>
         requires { 17 ≤ LEAST }
-        ensures value { with_work take work.new result ≡ opened_by C.cipher (λ c. c) key.now self.core.buffer }
-        ensures long { IfOk result (λ n. n + 33 ≡ length self.core.buffer) }
+        ensures value { with_work take work.new result ≡ opened_by C.cipher (λ c. c) key.now self.entry.core.buffer }
+        ensures long { IfOk result (λ n. n + 33 ≡ length self.entry.core.buffer) }
     {
         let (iv, body) = parts(&self.core);
         C::open(key, iv, body, work)

@@ -7,7 +7,7 @@ mod tests {
     use board::{Board, ByteAnswer};
     use cipher::{Aes128, BlockCipher, Ccm, Gcm, PacketCipher};
     use fault::Fault;
-    use memory::{Held, LentImage, Memory, Scrambler, Supply};
+    use memory::{Held, LentImage, Memory, Powered, Scrambler, Supply, sized};
     use packer::{DataPacket, pack_data};
     use std::alloc::Global;
     use std::mem::size_of;
@@ -110,7 +110,7 @@ mod tests {
     }
 
     // A frame whose call goes dark, for want of supply, and what the board says once the power is back.
-    fn cut<M: Memory, C: PacketCipher>(
+    fn cut<M: Powered, C: PacketCipher>(
         rt: &impl Abort,
         board: &mut Board<M, C>,
         frame: &[u8],
@@ -127,7 +127,7 @@ mod tests {
     }
 
     // An update of one packet that sets the reset vector: cut at each of its four steps, taken, and refused when it comes again.
-    fn update<M: Memory, C: PacketCipher>(
+    fn update<M: Powered, C: PacketCipher>(
         rt: &impl Abort,
         board: &mut Board<M, C>,
         iv: &[u8; 16],
@@ -154,7 +154,7 @@ mod tests {
         boots(rt, board, 1)
     }
 
-    fn all<M: Memory + Drop, C: PacketCipher>(
+    fn all<M: Powered + Drop, C: PacketCipher>(
         rt: &impl Abort,
         memory: M,
         iv: &[u8; 16],
@@ -167,15 +167,15 @@ mod tests {
     }
 
     fn lent(image: &mut [u8]) -> Result<LentImage<'_>, Fault> {
-        LentImage::over(image, Held::fresh(KEY, KEK), Supply::NoEnd)
+        let image = sized(image).ok_or(Fault::ImageSize)?;
+        Ok(LentImage::over(image, Held::fresh(KEY, KEK), Supply::NoEnd))
     }
 
     // The calls of a cipher, over a lent image and then over a scrambler.
     fn calls<C: PacketCipher>(rt: &impl Abort, heap: Global, iv: &[u8; 16]) -> Result<(), Fail> {
         let mut image = vec![in heap; 0xFFu8; 61056]?;
         all::<_, C>(rt, lent(&mut image)?, iv)?;
-        let below = lent(&mut image)?;
-        let mut memory = Scrambler { below, fixed: 0x5A };
+        let mut memory = Scrambler::over(lent(&mut image)?, 0x5A);
         memory.set_vector(0xFF, 0xFF)?;
         all::<_, C>(rt, memory, iv)
     }

@@ -1,10 +1,14 @@
 // demo: packs an update, writes its frames to a file if one is named, sends it to a fresh board, cuts the power in the middle, and tells what the board says on the way.
 #![tactic(auto)]
 
+ghost use Rattle.std.specs.Prelude.{◌≡◌, IfOk};
+ghost use Rattle.demo.specs.Frames.{update_frames};
+
 use board::{Answer, Board};
 use cipher::{Aes128, BlockCipher, Ccm};
 use example::{COUNT, Frame, pack_part, push_frame};
 use memory::{Held, LentImage, Memory, Supply};
+use std::alloc::Global;
 use std::env;
 use std::fs::File;
 use std::io::Write;
@@ -12,6 +16,17 @@ use std::io::Write;
 const KEY: [u8; 16] = [7; 16];
 
 const KEK: [u8; 16] = [9; 16];
+
+// The frames of version 1 of the update, packet after packet.
+fn update(heap: Global, key: &[u8; 16]) -> anyhow::Result<Vec<Frame>>
+    ensures { IfOk result (λ frames. frames.items ≡ update_frames key.now) }
+{
+    let mut frames = Vec::new(heap);
+    for number in 1..COUNT + 1 {
+        frames.push(pack_part(key, 1, number)?)?;
+    }
+    Ok(frames)
+}
 
 fn ask<M: Memory>(rt: &HostRuntime, board: &mut Board<M, Ccm<Aes128>>) -> anyhow::Result<()> {
     match board.boot() {
@@ -85,10 +100,7 @@ fn write_frames(rt: &HostRuntime, path: &str, frames: &[Frame]) -> anyhow::Resul
 }
 
 fn main(rt: HostRuntime) -> anyhow::Result<()> {
-    let mut frames = Vec::new(rt.alloc());
-    for number in 1..=COUNT {
-        frames.push(pack_part(&KEY, 1, number)?)?;
-    }
+    let frames = update(rt.alloc(), &KEY)?;
     let count = frames.iter().fold(
         0usize,
         |sum, frame| sum.saturating_add(frame.as_slice().len()),

@@ -6,13 +6,40 @@
 mod tests {
     use fault::Fault;
     use memory::{
-        AREAS, Held, KeyRecord, KeySlot, LentImage, Memory, Scrambler, Supply, mass_erase, sized,
-        store_data,
+        AREAS, Held, KeyRecord, KeySlot, LentImage, Memory, Powered, Scrambler, Supply,
+        VECTOR_HIGH, VECTOR_LOW, mass_erase, sized, store_data,
     };
     use std::process::Abort;
     use std::test::Fail;
 
     const DATA: [u8; 5] = [0x40, 0x41, 0x42, 0x43, 0x44];
+
+    // An address, its place in the image, a byte that is stored there through a scrambler, and the raw byte that is kept of it: under the fixed
+    // byte 0x5A, under 0xC3, and below a scrambler of 0xC3 over one of 0x5A.
+    type Kept = (u32, usize, u8, [u8; 3]);
+
+    // Computed by a short program in another language from the rules' sentence on the scrambler. The two vector bytes are set in one step.
+    const KEPT: [Kept; 19] = [
+        (0x1800, 0, 0x00, [0x5A, 0xC3, 0x99]),
+        (0x187F, 127, 0xFF, [0xDA, 0x43, 0x66]),
+        (0x1880, 128, 0x5A, [0x80, 0x19, 0xC3]),
+        (0x18FF, 255, 0x96, [0x33, 0xAA, 0x0F]),
+        (0x1900, 256, 0xC3, [0x99, 0x00, 0x5A]),
+        (0x4400, 512, 0x01, [0x5B, 0xC2, 0x98]),
+        (0x44FF, 767, 0x80, [0x25, 0xBC, 0x19]),
+        (0x4500, 768, 0x7E, [0x24, 0xBD, 0xE7]),
+        (0xEFFF, 44543, 0xA5, [0x00, 0x99, 0x3C]),
+        (0xFF80, 44544, 0x3C, [0xE6, 0x7F, 0xA5]),
+        (0xFFBF, 44607, 0x0F, [0xEA, 0x73, 0x96]),
+        (0xFFFE, 44670, 0x34, [0x90, 0x09, 0xAD]),
+        (0xFFFF, 44671, 0x12, [0xB7, 0x2E, 0x8B]),
+        (0x10000, 44672, 0x69, [0x33, 0xAA, 0xF0]),
+        (0x1007F, 44799, 0xD2, [0xF7, 0x6E, 0x4B]),
+        (0x10080, 44800, 0x00, [0xDA, 0x43, 0x99]),
+        (0x100FF, 44927, 0x00, [0xA5, 0x3C, 0x99]),
+        (0x10100, 44928, 0xFF, [0xA5, 0x3C, 0x66]),
+        (0x13FFF, 61055, 0xE1, [0x44, 0xDD, 0x78]),
+    ];
 
     // A refusal by its number, or 0: tests keep the numbers that were worked out for them.
     fn answers(rt: &impl Abort, r: Result<(), Fault>, refusal: u8) {
@@ -53,7 +80,7 @@ mod tests {
         answers(rt, store_data(m, address, &DATA[0..count]), refusal);
     }
 
-    fn left<M: Memory>(rt: &impl Abort, m: &mut M, steps: u32) {
+    fn left<M: Powered>(rt: &impl Abort, m: &mut M, steps: u32) {
         assert!(rt; matches!(m.supply(), Supply::Steps(n) if n == steps));
     }
 
@@ -141,7 +168,7 @@ mod tests {
     }
 
     // Two steps are kept, and then none; an address outside the map is refused as ever.
-    fn cut<M: Memory>(rt: &impl Abort, m: &mut M) -> Result<(), Fail> {
+    fn cut<M: Powered>(rt: &impl Abort, m: &mut M) -> Result<(), Fail> {
         m.set_supply(Supply::Steps(2));
         answers(rt, m.set_version(10, false), 0);
         left(rt, m, 1);
@@ -160,7 +187,7 @@ mod tests {
     }
 
     // What was kept.
-    fn cut_read<M: Memory>(rt: &impl Abort, m: &mut M) -> Result<(), Fail> {
+    fn cut_read<M: Powered>(rt: &impl Abort, m: &mut M) -> Result<(), Fail> {
         shows(rt, m, 0x4400, 0x77)?;
         shows(rt, m, 0x4401, 0xFF)?;
         shows(rt, m, 0xFFFE, 0x34)?;
@@ -173,7 +200,7 @@ mod tests {
     }
 
     // Data stored upward, also over the end of an area.
-    fn data_stored<M: Memory>(rt: &impl Abort, m: &mut M) -> Result<(), Fail> {
+    fn data_stored<M: Powered>(rt: &impl Abort, m: &mut M) -> Result<(), Fail> {
         m.set_supply(Supply::NoEnd);
         data(rt, m, 0x4500, 5, 0);
         shows(rt, m, 0x4504, 0x44)?;
@@ -185,7 +212,7 @@ mod tests {
     }
 
     // The first step of a mass erase blanks the vector; cut after 64 steps, the erase has reached the lower area.
-    fn erase_cut<M: Memory>(rt: &impl Abort, m: &mut M) -> Result<(), Fail> {
+    fn erase_cut<M: Powered>(rt: &impl Abort, m: &mut M) -> Result<(), Fail> {
         m.set_supply(Supply::Steps(1));
         answers(rt, mass_erase(m), 3);
         shows(rt, m, 0xFFFE, 0xFF)?;
@@ -204,7 +231,7 @@ mod tests {
     }
 
     // A whole mass erase has 60,479 steps, and leaves info, the start of the table and the held record.
-    fn erase<M: Memory>(rt: &impl Abort, m: &mut M) -> Result<(), Fail> {
+    fn erase<M: Powered>(rt: &impl Abort, m: &mut M) -> Result<(), Fail> {
         m.set_supply(Supply::Steps(60479));
         answers(rt, mass_erase(m), 0);
         left(rt, m, 0);
@@ -218,7 +245,7 @@ mod tests {
         Ok(())
     }
 
-    fn all<M: Memory + Drop>(rt: &impl Abort, mut m: M) -> Result<(), Fail> {
+    fn all<M: Powered + Drop>(rt: &impl Abort, mut m: M) -> Result<(), Fail> {
         blank(&mut m)?;
         bounds(rt, &mut m);
         bounds_read(rt, &mut m)?;
@@ -234,29 +261,69 @@ mod tests {
         Held::fresh([0; 16], [0; 16])
     }
 
+    // An image of zeros, lent with a fresh held record and a supply without end.
+    fn lent(image: &mut [u8]) -> Result<LentImage<'_>, Fail> {
+        let image = sized(image).ok_or(Fault::ImageSize)?;
+        Ok(LentImage::over(image, fresh(), Supply::NoEnd))
+    }
+
     #[test]
     fn memories_agree(rt: HostRuntime) -> Result<(), Fail> {
         let mut image = vec![in rt.alloc(); 0u8; 61056]?;
-        all(&rt, LentImage::over(&mut image, fresh(), Supply::NoEnd)?)?;
-        let scrambled = Scrambler {
-            below: LentImage::over(&mut image, fresh(), Supply::NoEnd)?,
-            fixed: 0x5A,
-        };
-        all(&rt, scrambled)?;
-        let below = Scrambler {
-            below: LentImage::over(&mut image, fresh(), Supply::NoEnd)?,
-            fixed: 0xC3,
-        };
-        all(&rt, Scrambler { below, fixed: 0x5A })
+        all(&rt, lent(&mut image)?)?;
+        all(&rt, Scrambler::over(lent(&mut image)?, 0x5A))?;
+        let below = Scrambler::over(lent(&mut image)?, 0xC3);
+        all(&rt, Scrambler::over(below, 0x5A))
+    }
+
+    // Stores the clear bytes, each by itself but the vector, and reads them back.
+    fn store_clear<M: Memory>(rt: &impl Abort, m: &mut M) -> Result<(), Fail> {
+        for (address, _, clear, _) in &KEPT {
+            if !(VECTOR_LOW..=VECTOR_HIGH).contains(address) {
+                store(rt, m, *address, *clear, 0);
+            }
+        }
+        answers(rt, m.set_vector(0x34, 0x12), 0);
+        for (address, _, clear, _) in &KEPT {
+            shows(rt, m, *address, *clear)?;
+        }
+        Ok(())
+    }
+
+    // Whether an image of bytes 0x11 keeps the raw bytes of a column, and is unchanged elsewhere.
+    fn keeps_raw(rt: &impl Abort, image: &[u8; 61056], column: usize) {
+        assert!(rt; column < 3);
+        for (_, place, _, raw) in &KEPT {
+            assert!(rt; *place < 61056);
+            assert!(rt; image[*place] == raw[column]);
+        }
+        let others = image.iter().filter(|raw| **raw == 0x11).count();
+        assert!(rt; others == 61056 - 19);
+    }
+
+    #[test]
+    fn raw_bytes_below_a_scrambler(rt: HostRuntime) -> Result<(), Fail> {
+        for (fixed, column) in [(0x5A, 0), (0xC3, 1)] {
+            let mut image = vec![in rt.alloc(); 0x11u8; 61056]?;
+            let mut memory = Scrambler::over(lent(&mut image)?, fixed);
+            store_clear(&rt, &mut memory)?;
+            let (image, _, _) = memory.into_below().into_parts();
+            keeps_raw(&rt, image, column);
+        }
+        let mut image = vec![in rt.alloc(); 0x11u8; 61056]?;
+        let mut memory = Scrambler::over(Scrambler::over(lent(&mut image)?, 0x5A), 0xC3);
+        store_clear(&rt, &mut memory)?;
+        let (image, _, _) = memory.into_below().into_below().into_parts();
+        keeps_raw(&rt, image, 2);
+        Ok(())
     }
 
     #[test]
     fn other_sizes_are_refused(rt: HostRuntime) -> Result<(), Fail> {
         for n in [0usize, 61055, 61057] {
-            let mut image = vec![in rt.alloc(); 0u8; n]?;
-            answers(&rt, sized(&image), 4);
-            let refusal = LentImage::over(&mut image, fresh(), Supply::NoEnd).err();
-            assert!(rt; refusal == Some(Fault::ImageSize));
+            let mut image = vec![in rt.alloc(); 7u8; n]?;
+            assert!(rt; sized(&mut image).is_none());
+            assert!(rt; image.iter().all(|b| *b == 7));
         }
         Ok(())
     }

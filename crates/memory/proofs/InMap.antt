@@ -42,7 +42,7 @@ held f l a h k = and_from _ _ (le-leb f a h) (le-leb a l k)
 
 -- the steps of a mass erase, written out
 pub as_written : EraseAsWritten
-unfolding erase_steps round_steps all_areas
+unfolding erase_steps all_areas
 as_written =
     ap (λ l. set_vector 255 255 ∷ (l ++ (blanks 0x4400 44032 ++ (blanks 0x10000 16384 ++ [])))) (append-nil (blanks 0xFFC0 62))
     ∙ ap (λ l. set_vector 255 255 ∷ (blanks 0xFFC0 62 ++ (blanks 0x4400 44032 ++ l))) (append-nil (blanks 0x10000 16384))

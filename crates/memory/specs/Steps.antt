@@ -41,7 +41,7 @@ round true x = cond (holds x 0xFFFE) (erased x) []
 round false x = cond (holds x 0xFFFE) [] (erased x)
 
 -- all that it blanks in a round, walking the areas of the map
-unfoldable pub round_steps : Bool → List Step
+abbrev pub round_steps : Bool → List Step
 round_steps vector = flat_map (round vector) all_areas
 
 -- a mass erase: the vector, the rest of its area, the other areas

@@ -33,8 +33,7 @@ impl<M: Memory> Scrambler<M> {
     pub fn into_below(self) -> M
         ensures { result ≡ self.below }
     {
-        let Scrambler { below, fixed: _ } = self;
-        below
+        self.below
     }
 }
 

@@ -1,2 +1,5 @@
 pub mod Fronts
+pub mod Given
+pub mod Lengths
 pub mod Opened
+pub mod Words

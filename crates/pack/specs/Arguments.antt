@@ -14,6 +14,11 @@ use Rattle.pack.specs.declared.usage.Argument.TheVariants.{Cipher, Key, Kek, Iv,
 abbrev pub mode_read : List ℕ → Option Mode
 mode_read word = cond (bytes_eq word (codes "ccm")) (Some Ccm) (cond (bytes_eq word (codes "gcm")) (Some Gcm) None)
 
+-- its name
+abbrev pub mode_text : Mode → List ℕ
+mode_text Ccm = codes "AES-128 CCM"
+mode_text Gcm = codes "AES-128 GCM"
+
 -- what follows of a value; without one, the argument is malformed
 abbrev pub want : {X Y : Type 0} → Option X → Argument → (X → Result Y Argument) → Result Y Argument
 want None a f = Err a

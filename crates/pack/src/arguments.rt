@@ -1,7 +1,7 @@
 // What the arguments ask for. The first malformed one is named.
-ghost use Rattle.std.specs.Prelude.{◌≡◌, IfErr};
+ghost use Rattle.std.specs.Prelude.{◌≡◌, IfErr, Some};
 ghost use Rattle.std.specs.Result.{result_ok};
-ghost use Rattle.pack.specs.Arguments.{mode_read, data_read, key_read};
+ghost use Rattle.pack.specs.Arguments.{mode_read, mode_text, data_read, key_read};
 ghost use Rattle.pack.specs.declared.usage.Argument.TheVariants.{Cipher};
 
 use crate::usage::Argument;
@@ -17,6 +17,8 @@ pub enum Mode {
 }
 
 impl fmt::Display for Mode {
+    ghost output = { λ mode. Some (mode_text mode) };
+
     fn fmt<W: fmt::Write>(&self, f: &mut fmt::Formatter<W>) -> fmt::Result {
         f.write_str(match self {
             Mode::Ccm => "AES-128 CCM",

@@ -1,11 +1,11 @@
-// Why the program fails. Its impls are written out, since `System` takes errors of several types, for each of which a derive wants a variant.
-ghost use Rattle.std.specs.Prelude.{◌≡◌};
+// Why the program makes no frame.
+ghost use Rattle.std.specs.Prelude.{◌≡◌, Some};
+ghost use Rattle.pack.specs.Usage.{failure_text};
 ghost use Rattle.pack.specs.declared.failure.Failure.TheVariants.{Refused};
 
 use crate::usage::{Argument, Form};
 use fault::Fault;
-use std::alloc::{AllocError, AllocFailed};
-use std::{fmt, io};
+use std::fmt;
 
 #[derive(Clone, Copy)]
 pub enum Failure {
@@ -15,11 +15,11 @@ pub enum Failure {
     Refused(Fault),
     // The frame did not open again to the same contents.
     NotOpened,
-    // No memory, or a stream failed: nothing is printed.
-    System,
 }
 
 impl fmt::Display for Failure {
+    ghost output = { λ failure. Some (failure_text failure) };
+
     fn fmt<W: fmt::Write>(&self, f: &mut fmt::Formatter<W>) -> fmt::Result {
         match self {
             Failure::Malformed(form, argument) => {
@@ -29,7 +29,6 @@ impl fmt::Display for Failure {
             Failure::NotOpened => {
                 write!(f, "The frame did not open again to the same contents.")
             }
-            Failure::System => Ok(()),
         }
     }
 }
@@ -39,23 +38,5 @@ impl From<Fault> for Failure {
 
     fn from(refusal: Fault) -> Failure {
         Failure::Refused(refusal)
-    }
-}
-
-impl From<AllocError> for Failure {
-    fn from(_: AllocError) -> Failure {
-        Failure::System
-    }
-}
-
-impl<T: Drop> From<AllocFailed<T>> for Failure {
-    fn from(_: AllocFailed<T>) -> Failure {
-        Failure::System
-    }
-}
-
-impl From<io::Error> for Failure {
-    fn from(_: io::Error) -> Failure {
-        Failure::System
     }
 }

@@ -1,77 +1,82 @@
-// pack: seals one packet into its frame, prints the frame, and opens it again.
+// pack: seals one packet into its frame, opens the frame again, and prints it.
 #![tactic(auto)]
+
+ghost use Rattle.std.specs.Prelude.{◌≡◌};
+ghost use Rattle.pack.specs.Showing.{key_name};
 
 mod arguments;
 mod failure;
+mod frames;
 mod report;
 mod usage;
 
-use arguments::{Mode, data_arguments, key_arguments};
-use cipher::{Aes128, BlockCipher, Ccm, Gcm};
 use failure::Failure;
-use report::{report_data, report_key};
+use report::{Packet, Report, report_of};
+use std::env;
 use std::process::ExitCode;
-use std::{env, io};
-use text::hex::hex_bytes;
-use usage::{Argument, Form};
+use text::lines::HexLines;
 
-// Packs the data packet that the words behind `data` ask for.
-fn data(rt: &HostRuntime, words: &[String]) -> Result<(), Failure> {
-    let malformed = |argument| Failure::Malformed(Form::Data, argument);
-    let [cipher, key, iv, ver, pn, np, address, data] = words else {
-        return Err(malformed(Argument::Count));
-    };
-    let a = data_arguments(cipher, key, iv, ver, pn, np, address).map_err(malformed)?;
-    let bytes = hex_bytes(rt.alloc(), data.as_bytes())?.ok_or(malformed(Argument::Data))?;
-    // A word chooses the type of the packet cipher: as a closure or a `dyn` it would be no plainer.
-    match a.mode {
-        Mode::Ccm => report_data::<Ccm<Aes128>>(rt, &a, &bytes),
-        Mode::Gcm => report_data::<Gcm<Aes128>>(rt, &a, &bytes),
+// The name of a key's type.
+fn key_name(kind: u8) -> &'static str
+    ensures { result.now ≡ key_name kind }
+{
+    match kind {
+        0 => "data key",
+        2 => "key-encryption key",
+        _ => "key of an unknown type",
     }
 }
 
-// Packs the key packet that the words behind `key` ask for.
-fn key(rt: &HostRuntime, words: &[String]) -> Result<(), Failure> {
-    let malformed = |argument| Failure::Malformed(Form::Key, argument);
-    let [cipher, kek, iv, kt, kv, key] = words else {
-        return Err(malformed(Argument::Count));
-    };
-    let a = key_arguments(cipher, kek, iv, kt, kv, key).map_err(malformed)?;
-    // The same for key packets, which are reported by another function.
-    match a.mode {
-        Mode::Ccm => report_key::<Ccm<Aes128>>(rt, &a),
-        Mode::Gcm => report_key::<Gcm<Aes128>>(rt, &a),
+// Prints what was packed, and the frame.
+fn show(rt: &HostRuntime, report: &Report) -> anyhow::Result<()> {
+    let bytes = report.frame.as_slice();
+    let length = bytes.len();
+    match report.packet {
+        Packet::Data(a, count) => println!(rt;
+            "Packed data packet {} of {} of version {}: {count} bytes for 0x{:05X}, sealed with {}, in a frame of {length} bytes:",
+            a.number, a.count, a.version, a.address, a.mode
+        )?,
+        Packet::Key(a) => println!(rt;
+            "Packed a key packet: {} of version {}, sealed with {}, in a frame of {length} bytes:",
+            key_name(a.kind),
+            a.version,
+            a.mode
+        )?,
     }
+    let lines = HexLines { bytes };
+    println!(rt; "{lines}")?;
+    println!(rt; "The frame opened again to the same contents.")?;
+    Ok(())
 }
 
-fn run(rt: &HostRuntime) -> Result<(), Failure> {
-    let words: Vec<String> = env::args(rt)?.collect(rt.alloc())?;
-    let [_, command, words @ ..] = words.as_slice() else {
-        return Err(Failure::Malformed(Form::Unknown, Argument::Command));
-    };
-    match command.as_str() {
-        "data" => data(rt, words),
-        "key" => key(rt, words),
-        _ => Err(Failure::Malformed(Form::Unknown, Argument::Command)),
-    }
-}
-
-// Says why the program fails: what is malformed on standard error, else on standard output.
-fn tell(rt: &HostRuntime, failure: Failure) -> io::Result<()> {
+// Says why there is no frame: what is malformed on standard error, else on standard output.
+fn tell(rt: &HostRuntime, failure: Failure) -> anyhow::Result<()> {
     match failure {
-        Failure::Malformed(_, _) => eprintln!(rt; "{failure}"),
-        Failure::Refused(_) | Failure::NotOpened => println!(rt; "{failure}"),
-        Failure::System => Ok(()),
+        Failure::Malformed(_, _) => eprintln!(rt; "{failure}")?,
+        Failure::Refused(_) | Failure::NotOpened => println!(rt; "{failure}")?,
+    }
+    Ok(())
+}
+
+// Says what the words come to; the exit status tells whether there is a frame.
+fn run(rt: &HostRuntime) -> anyhow::Result<ExitCode> {
+    let words: Vec<String> = env::args(rt)?.collect(rt.alloc())?;
+    match report_of(rt.alloc(), &words)? {
+        Ok(report) => {
+            show(rt, &report)?;
+            Ok(ExitCode::SUCCESS)
+        }
+        Err(failure) => {
+            tell(rt, failure)?;
+            Ok(ExitCode::FAILURE)
+        }
     }
 }
 
-// The exit status tells of a failure even where nothing can be written.
+// Without memory, or where nothing can be written, the status alone tells of it.
 fn main(rt: HostRuntime) -> ExitCode {
     match run(&rt) {
-        Ok(()) => ExitCode::SUCCESS,
-        Err(failure) => {
-            let _ = tell(&rt, failure);
-            ExitCode::FAILURE
-        }
+        Ok(code) => code,
+        Err(_) => ExitCode::FAILURE,
     }
 }

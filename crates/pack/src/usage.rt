@@ -1,4 +1,7 @@
 // What is told to whoever gives malformed arguments.
+ghost use Rattle.std.specs.Prelude.{◌≡◌, Some};
+ghost use Rattle.pack.specs.Usage.{form_text, wanted_text};
+
 use std::fmt;
 
 // The program's two forms, and neither.
@@ -28,6 +31,8 @@ pub enum Argument {
 }
 
 impl fmt::Display for Form {
+    ghost output = { λ form. Some (form_text form) };
+
     fn fmt<W: fmt::Write>(&self, f: &mut fmt::Formatter<W>) -> fmt::Result {
         f.write_str(match self {
             Form::Data => "pack data CIPHER KEY IV VER PN NP ADDRESS DATA",
@@ -39,7 +44,10 @@ impl fmt::Display for Form {
 }
 
 impl Argument {
-    fn wanted(&self) -> &'static str {
+    // What is wanted of the argument.
+    fn wanted(&self) -> &'static str
+        ensures { result.now ≡ wanted_text self.now }
+    {
         match self {
             Argument::Command => "the first argument is data or key",
             Argument::Count => "there are too few arguments or too many",
@@ -59,6 +67,8 @@ impl Argument {
 }
 
 impl fmt::Display for Argument {
+    ghost output = { λ argument. Some (wanted_text argument) };
+
     fn fmt<W: fmt::Write>(&self, f: &mut fmt::Formatter<W>) -> fmt::Result {
         f.write_str(self.wanted())
     }

@@ -1,2 +1,3 @@
--- What is sent to a board while it is measured.
+-- What is sent to a board while it is measured, and the names of what is measured.
 pub mod Sending
+pub mod Works

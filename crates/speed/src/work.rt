@@ -1,7 +1,8 @@
 // What is measured, in turns of so many pieces: how many of them were done, and how long the turn took.
-ghost use Rattle.std.specs.Prelude.{◌≡◌, ◌≢◌, ◌<◌, min, replicate, IfOk};
+ghost use Rattle.std.specs.Prelude.{◌≡◌, ◌≢◌, ◌<◌, min, replicate, IfOk, Some};
 ghost use Rattle.rules.specs.Promises.{Given};
 ghost use Rattle.speed.specs.Sending.{erases_calls, obeyed_of, first_packet_calls};
+ghost use Rattle.speed.specs.Works.{work_name};
 ghost use Rattle.speed.specs.declared.work.Work.TheVariants.{Packet, Erase};
 
 use crate::calling::obey;
@@ -93,6 +94,8 @@ fn fill(rt: &HostRuntime, image: &mut [u8], pieces: u32) -> anyhow::Result<Turn>
 }
 
 impl fmt::Display for Work {
+    ghost output = { λ work. Some (work_name work) };
+
     fn fmt<W: fmt::Write>(&self, f: &mut fmt::Formatter<W>) -> fmt::Result {
         f.write_str(match self {
             Work::OpenCcm => "open-ccm",

@@ -1,4 +1,6 @@
 pub mod Asking
+pub mod Counting
 pub mod Cutting
 pub mod Fillers
+pub mod Fixed
 pub mod Sending

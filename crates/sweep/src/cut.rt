@@ -3,7 +3,7 @@ ghost use Rattle.std.specs.Prelude.{◌≡◌, IfOk, OnOk};
 ghost use Rattle.cipher.specs.Aes.{aes};
 ghost use Rattle.cipher.specs.Ccm.{ccm};
 ghost use Rattle.rules.specs.Board.{run};
-ghost use Rattle.sweep.specs.Cuts.{board_on, cut_at, cut_of, half_of, power_back, said_at, steps_of};
+ghost use Rattle.sweep.specs.Cuts.{board_on, cut_at, cut_of, half_of, power_back, said_at, steps_of, steps_taken};
 ghost use Rattle.sweep.specs.Kinds.{snapshot_meaning};
 ghost use Rattle.sweep.specs.Programs.{program_left};
 
@@ -86,7 +86,8 @@ fn lay_over<M: Kept>(memory: M, stood: &Snapshot, laid: &mut Snapshot) -> anyhow
 {
     let mut memory = memory.restored(stood);
     lay_program(&mut memory, 2)?;
-    memory.saved(laid)
+    let memory = memory.saved(laid)?;
+    Ok(memory)
 }
 
 // Whether a board that said this boots a half program: it says that there is an application, and its image is neither the old program's,
@@ -129,16 +130,23 @@ pub(crate) fn cut_power<M: Kept>(
     let (half_back, memory) = is_half(memory, back, old, old, &room.back, &mut room.laid)?;
     let (half_again, memory) =
         is_half(memory, again, old, &room.back, &room.again, &mut room.laid)?;
-    let half = half_back || half_again;
-    Ok((
-        Cut {
-            gone,
-            back,
-            again,
-            half,
-        },
-        memory,
-    ))
+    let cut = Cut {
+        gone,
+        back,
+        again,
+        half: half_back | half_again,
+    };
+    Ok((cut, memory))
+}
+
+// How many of the steps are used up.
+fn steps_taken(supply: Supply) -> u32
+    ensures { result ≡ steps_taken supply }
+{
+    match supply {
+        Supply::Steps(left) => LARGE.saturating_sub(left),
+        Supply::NoEnd => 0,
+    }
 }
 
 // How many storing steps the calls take, with a supply that is larger.
@@ -154,9 +162,6 @@ pub(crate) fn count_steps<M: Kept>(
     board.power_up(Supply::Steps(LARGE));
     board.run(heap, calls)?;
     let mut memory = board.into_memory();
-    let steps = match memory.supply() {
-        Supply::Steps(left) => LARGE.saturating_sub(left),
-        Supply::NoEnd => 0,
-    };
-    Ok((steps, memory))
+    let left = memory.supply();
+    Ok((steps_taken(left), memory))
 }

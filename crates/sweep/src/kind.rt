@@ -1,13 +1,16 @@
 // The memories that are swept: the lent image, and the scrambler over it.
-ghost use Rattle.std.specs.Prelude.{◌≡◌, ℕ, List, IfOk, OnOk};
+ghost use Rattle.std.specs.Prelude.{◌≡◌, ℕ, List, Some, IfOk, OnOk};
 ghost use Rattle.memory.specs.Scrambled.{clear};
 ghost use Rattle.sweep.specs.Alike.{alike_clear};
-ghost use Rattle.sweep.specs.Kinds.{same, snapshot_meaning};
+ghost use Rattle.sweep.specs.Kinds.{kind_text, same, snapshot_meaning};
 
 use crate::snapshot::Snapshot;
 use anyhow::anyhow;
-use memory::{AREAS, LentImage, Memory, Powered, Scrambler};
+use memory::{LentImage, Memory, Powered, Scrambler};
 use std::fmt;
+
+// The first address of the map.
+const FIRST: u32 = 0x1800;
 
 // The byte that the scrambler scrambles with.
 pub(crate) const FIXED: u8 = 0x5A;
@@ -19,6 +22,8 @@ pub enum Kind {
 }
 
 impl fmt::Display for Kind {
+    ghost output = { λ kind. Some (kind_text kind) };
+
     fn fmt<W: fmt::Write>(&self, f: &mut fmt::Formatter<W>) -> fmt::Result {
         f.write_str(match self {
             Kind::Lent => "the lent image",
@@ -85,7 +90,7 @@ impl<'a> Kept for Scrambler<LentImage<'a>> {
     // No contract of a memory says that a scrambler's fixed byte is still the one that it was made with. The first byte of the image, read through
     // the scrambler and read below it, shows that it is.
     fn saved(mut self, to: &mut Snapshot) -> anyhow::Result<Scrambler<LentImage<'a>>> {
-        let first = self.read(AREAS[0].first)?;
+        let first = self.read(FIRST)?;
         let below = self.into_below().saved(to)?;
         if to.image[0] ^ first != FIXED {
             return Err(anyhow!("the scrambler scrambles with another byte"));

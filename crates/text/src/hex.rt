@@ -7,7 +7,7 @@ use crate::number::{digit, number};
 use std::alloc::{AllocError, Global};
 
 // The value of a digit.
-pub fn hex_digit(b: u8) -> Option<u8>
+fn hex_digit(b: u8) -> Option<u8>
     ensures { result ≡ hex_value b }
 {
     digit(b, 16)

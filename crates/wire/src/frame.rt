@@ -5,7 +5,7 @@ ghost use Rattle.wire.specs.Frame.{frame_size, framed, room};
 use crate::checksum::checksum;
 
 // The core command of a good frame has 1 to 299 bytes.
-pub const CORE_MAX: usize = 299;
+const CORE_MAX: usize = 299;
 
 // Whether a core command of `n` bytes has a frame that fits in `m` bytes.
 fn fits(n: usize, m: usize) -> bool

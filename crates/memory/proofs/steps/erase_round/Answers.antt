@@ -15,7 +15,7 @@ unfolding all_areas
 opened v i h = at_drop_more (flat_map (round v)) all_areas i no_area h
 
 pub loop-area-init : goal.loop-area-init
-unfolding round_steps all_areas
+unfolding all_areas
 loop-area-init g c = to_do_all (round_steps c.args.vector) (g.M.Memory.meaning c.args.memory.now) (rounds_in c.args.vector)
 
 pub erase_in_round-requires : goal.erase_in_round-requires

@@ -13,10 +13,10 @@ pub returns-in_err-store_data : goal.returns-in_err-store_data
 returns-in_err-store_data g c =
     let p = judged_in c.args.self.now c.args.work.now in
     done_as _ _ _ _ _ (passed_on _ _ c.from_residual-in_err-store_data.ensures.1)
-    (broke_store p _ _ (data_mapped c.args.self.now _ c.told-work) (c.in_ok-open_update.ensures p.bytes) _ _ (data_part c.args.self.now.opened _) _ c.in_err-store_data.ensures)
+    (broke_store p _ _ (data_mapped c.args.self.now _ c.told-work) (c.in_ok-open_update.ensures p.bytes) _ _ (data_part c.args.self.now.opened _) _ (record { after = c.in_err-store_data.ensures.after; value = c.in_err-store_data.ensures.value }))
 
 pub returns : goal.returns
 returns g c =
     let p = judged_in c.args.self.now c.args.work.now in
     made_all p _ _ (data_mapped c.args.self.now _ c.told-work) (c.in_ok-open_update.ensures p.bytes) _ _ (data_part c.args.self.now.opened _) _ _
-    c.in_ok-store_data.ensures (c.close_update.ensures p.bytes)
+    (record { after = c.in_ok-store_data.ensures.after; value = c.in_ok-store_data.ensures.value }) (c.close_update.ensures p.bytes)

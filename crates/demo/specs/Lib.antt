@@ -1,0 +1,2 @@
+-- The frames that the demonstration sends.
+pub mod Frames
