@@ -121,6 +121,15 @@ fn sweep_all<M: Kept>(rt: &HostRuntime, mut memory: M, every: u32) -> anyhow::Re
     Ok(update.and(key).and(erase))
 }
 
+// What the old program's memory holds.
+fn old_record() -> Held
+    ensures { result ≡ old_record }
+{
+    let mut held = Held::fresh(KEY, KEK);
+    held.version = 1;
+    held
+}
+
 // Sweeps over both memories, each on an image of its own.
 fn sweep_both(
     rt: &HostRuntime,
@@ -131,8 +140,7 @@ fn sweep_both(
     requires { 0 < every }
     ensures { IfOk result (λ counts. counts ≡ both (counts_of_all every (prepared 1 (meaning_of lent.old old_record NoEnd))) (counts_of_all every (prepared 1 (clear_meaning 0x5A (meaning_of scrambled.old old_record NoEnd))))) }
 {
-    let mut held = Held::fresh(KEY, KEK);
-    held.version = 1;
+    let held = old_record();
     let memory = LentImage::over(lent, held, Supply::NoEnd);
     let first = sweep_all(rt, memory, every)?;
     let memory = Scrambler::over(LentImage::over(scrambled, held, Supply::NoEnd), FIXED);

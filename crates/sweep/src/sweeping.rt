@@ -110,7 +110,8 @@ pub(crate) fn sweep<M: Kept>(
 {
     let (steps, mut memory) = count_steps(rt.alloc(), memory, old, &plan.cut)?;
     let mut report = Report::new(steps);
-    for step in 1..=steps {
+    for kept in 0..steps {
+        let step = kept + 1;
         memory = sweep_step(rt.alloc(), memory, old, room, plan, every, step, &mut report)?;
         progress(rt, plan, M::KIND, step, steps)?;
     }
