@@ -8,7 +8,9 @@ trap 'rm -f "$log" "$log.status"' EXIT
 { rt ci 2>&1; echo $? > "$log.status"; } | tee "$log" | sed -u '$d'
 failed=$(cat "$log.status")
 if [ "$failed" = 0 ]; then
-    sh tests/refusal_table.sh && sh tests/refusals.sh && sh tests/full.sh && sh tests/opening.sh && sh tests/places.sh || failed=1
+    for script in refusal_table refusals full opening places long; do
+        sh tests/$script.sh || failed=1
+    done
 fi
 if grep -q '^rt: ok.*, [1-9][0-9]* bad' "$log"; then
     echo 'tests/gate.sh: a must-fail edit is bad'

@@ -1,5 +1,5 @@
 #!/bin/sh
-# Whether the test of crates/fault has one line for each refusal of the table of docs/RULES.md, with its number, its layer and a place of its
+# Whether the test in crates/published has one line for each refusal of the table of docs/RULES.md, with its number, its layer and a place of its
 # form, and no other line. That the code does what the lines say is what that test finds out.
 cd "$(dirname "$0")/.."
 work=$(mktemp -d)
@@ -19,7 +19,7 @@ sed -n 's/^| \([0-9]*\) | `\([A-Za-z]*\)` | \([a-z]*\) | \([^|]*\) | .*|$/\1 \2 
     done | sort > "$work/table"
 
 # the test's lines in the same form; a place must be the value that the refusal is made with
-sed -n 's/^ *(\([A-Za-z]*\)(*\([0-9A-Fx]*\))*, "\([0-9]*\), layer \([a-z]*\), place \([0-9]*\)"),$/\3 \1 \4 \5 \2/p' crates/fault/src/lib.rt |
+sed -n 's/^ *(\([A-Za-z]*\)(*\([0-9A-Fx]*\))*, "\([0-9]*\), layer \([a-z]*\), place \([0-9]*\)"),$/\3 \1 \4 \5 \2/p' crates/published/src/lib.rt |
     while read -r number name layer place value; do
         if [ -z "$value" ] && [ "$place" = 0 ]; then
             form=none
@@ -36,7 +36,7 @@ sed -n 's/^ *(\([A-Za-z]*\)(*\([0-9A-Fx]*\))*, "\([0-9]*\), layer \([a-z]*\), pl
     done | sort > "$work/test"
 
 if [ ! -s "$work/table" ] || ! diff "$work/table" "$work/test"; then
-    echo 'tests/refusal_table.sh: the lines of the test in crates/fault (>) are not the rows of docs/RULES.md (<)'
+    echo 'tests/refusal_table.sh: the lines of the test in crates/published (>) are not the rows of docs/RULES.md (<)'
     exit 1
 fi
 echo "tests/refusal_table.sh: $(wc -l < "$work/table") refusals, as in docs/RULES.md"

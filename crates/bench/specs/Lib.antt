@@ -1,3 +1,2 @@
--- The rows that a replay of calls prints, and how far a listing has come on a board.
-pub mod Replaying
-pub mod Listing
+-- What the words behind the program's name ask for.
+pub mod Words

@@ -1,67 +1,54 @@
 // bench: reads a listing of calls from standard input, makes them on a fresh board, and prints a row for each line.
 #![tactic(auto)]
 
-ghost use Rattle.std.specs.Prelude.{◌≡◌, length, replicate, Ok};
+ghost use Rattle.std.specs.Prelude.{◌≡◌, map, replicate, string_bytes};
+ghost use Rattle.bench.specs.Words.{detail_asked};
 ghost use Rattle.rules.specs.Promises.{Given, start};
 
-mod replay;
-mod waiting;
-
 use board::Board;
-use cipher::{Aes128, BlockCipher, Ccm, PacketCipher};
+use cipher::{Aes128, BlockCipher, Ccm};
 use fault::Fault;
-use memory::{LentImage, MAP_SIZE, Memory};
-use std::io::{BufRead, BufReader, Write};
-use waiting::Bench;
-
-// Reads the next line, without its end; bytes behind the last line end are no line.
-fn next_line<R: BufRead>(input: &mut R, line: &mut Vec<u8>) -> anyhow::Result<bool> {
-    line.clear();
-    input.read_until(b'\n', line)?;
-    Ok(line.pop() == Some(b'\n'))
-}
-
-// Makes the calls that wait, and prints all rows.
-fn print_rows<M: Memory, C: PacketCipher>(
-    rt: &HostRuntime,
-    bench: &mut Bench<M, C>,
-) -> anyhow::Result<()> {
-    bench.make_calls(rt.alloc())?;
-    rt.stdout().write_all(bench.rows())?;
-    bench.clear_rows();
-    Ok(())
-}
-
-// Replays the listing on standard input on a board.
-fn replay_input<M: Memory + Drop, C: PacketCipher>(
-    rt: &HostRuntime,
-    board: Board<M, C>,
-) -> anyhow::Result<()> {
-    let mut bench = Bench::new(rt.alloc(), board);
-    let mut input = BufReader::new(rt.alloc(), rt.stdin())?;
-    let mut line = Vec::new(rt.alloc());
-    // Not the reader's lines(): it would also yield bytes after the last line end.
-    for _ in 0..u64::MAX {
-        if !next_line(&mut input, &mut line)? {
-            break;
-        }
-        bench.line(rt.alloc(), &line)?;
-        if bench.is_full() {
-            print_rows(rt, &mut bench)?;
-        }
-    }
-    print_rows(rt, &mut bench)
-}
+use listing::{Detail, replay_listing};
+use memory::{LentImage, MAP_SIZE, sized};
+use std::env;
+use std::io::BufReader;
+use std::process::ExitCode;
 
 // The board that a listing begins on: a fresh one, with the image all 0xFF and keys of zeros.
-fn first_board(image: &mut [u8]) -> Result<Board<LentImage<'_>, Ccm<Aes128>>, Fault>
-    ensures { (g : Given) → g.image ≡ replicate (length image.old) 0xFF → g.data_key_bytes ≡ replicate 16 0 → g.kek_bytes ≡ replicate 16 0 → result ≡ Ok (start g) }
+fn first_board(image: &mut [u8; MAP_SIZE]) -> Board<LentImage<'_>, Ccm<Aes128>>
+    ensures { (g : Given) → g.image ≡ replicate 61056 0xFF → g.data_key_bytes ≡ replicate 16 0 → g.kek_bytes ≡ replicate 16 0 → result ≡ start g }
 {
     image.fill(0xFF);
     Board::fresh(image, [0; 16], [0; 16])
 }
 
-fn main(rt: HostRuntime) -> anyhow::Result<()> {
+// Replays the listing on standard input on a fresh board, and prints its rows.
+fn replay_input(rt: &HostRuntime, detail: Detail) -> anyhow::Result<()> {
     let mut image = vec![in rt.alloc(); 0u8; MAP_SIZE]?;
-    replay_input(&rt, first_board(&mut image)?)
+    let image = sized(&mut image).ok_or(Fault::ImageSize)?;
+    let board = first_board(image);
+    let mut input = BufReader::new(rt.alloc(), rt.stdin())?;
+    replay_listing(rt.alloc(), board, detail, &mut input, &mut rt.stdout())?;
+    Ok(())
+}
+
+// What the rows are to show of refusals; none where the words behind the program's name are no option.
+fn detail_of(words: &[String]) -> Option<Detail>
+    ensures { result ≡ detail_asked (map string_bytes words.now) }
+{
+    match words {
+        [] => Some(Detail::Number),
+        [word] if word.as_str() == "--places" => Some(Detail::Place),
+        _ => None,
+    }
+}
+
+fn main(rt: HostRuntime) -> anyhow::Result<ExitCode> {
+    let words: Vec<String> = env::args(&rt)?.collect(rt.alloc())?;
+    let Some(detail) = detail_of(words.get(1..).unwrap_or(&[])) else {
+        eprintln!(rt; "usage: bench [--places] < LISTING")?;
+        return Ok(ExitCode::FAILURE);
+    };
+    replay_input(&rt, detail)?;
+    Ok(ExitCode::SUCCESS)
 }

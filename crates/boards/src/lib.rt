@@ -3,6 +3,9 @@
 #![tactic(auto)]
 
 #[cfg(test)]
+mod listings;
+
+#[cfg(test)]
 mod tests {
     use board::{Board, ByteAnswer};
     use cipher::{Aes128, BlockCipher, Ccm, Gcm, PacketCipher};

@@ -7,7 +7,8 @@ ghost use Rattle.demo.specs.Frames.{update_frames};
 use board::{Answer, Board};
 use cipher::{Aes128, BlockCipher, Ccm};
 use example::{COUNT, Frame, pack_part, push_frame};
-use memory::{Held, LentImage, Memory, Supply};
+use fault::Fault;
+use memory::{LentImage, MAP_SIZE, Memory, Powered, Supply, sized};
 use std::alloc::Global;
 use std::env;
 use std::fs::File;
@@ -37,7 +38,7 @@ fn ask<M: Memory>(rt: &HostRuntime, board: &mut Board<M, Ccm<Aes128>>) -> anyhow
 }
 
 // Sends one packet, in one run of calls, and tells what its last byte is answered with.
-fn send<M: Memory>(
+fn send<M: Powered>(
     rt: &HostRuntime,
     board: &mut Board<M, Ccm<Aes128>>,
     number: u8,
@@ -59,7 +60,7 @@ fn told(rt: &HostRuntime, number: u8, answer: &Answer) -> anyhow::Result<()> {
     Ok(())
 }
 
-fn send_all<M: Memory>(
+fn send_all<M: Powered>(
     rt: &HostRuntime,
     board: &mut Board<M, Ccm<Aes128>>,
     frames: &[Frame],
@@ -70,8 +71,12 @@ fn send_all<M: Memory>(
     Ok(())
 }
 
-fn story<M: Memory + Drop>(rt: &HostRuntime, memory: M, frames: &[Frame]) -> anyhow::Result<()> {
-    let mut board: Board<M, Ccm<Aes128>> = Board::new(memory);
+// Tells the story of a fresh board, and gives back its memory.
+fn story<M: Powered + Drop>(
+    rt: &HostRuntime,
+    mut board: Board<M, Ccm<Aes128>>,
+    frames: &[Frame],
+) -> anyhow::Result<M> {
     println!(rt; "A fresh board:")?;
     ask(rt, &mut board)?;
     println!(rt; "The update is sent, and the power lasts for 300 storing steps:")?;
@@ -86,7 +91,8 @@ fn story<M: Memory + Drop>(rt: &HostRuntime, memory: M, frames: &[Frame]) -> any
     ask(rt, &mut board)?;
     println!(rt; "Somebody sends its packets once more:")?;
     send_all(rt, &mut board, frames)?;
-    ask(rt, &mut board)
+    ask(rt, &mut board)?;
+    Ok(board.into_memory())
 }
 
 // Writes the frames to a file, one after the other, as they go over the wire.
@@ -109,7 +115,9 @@ fn main(rt: HostRuntime) -> anyhow::Result<()> {
     if let Some(path) = env::args(&rt)?.nth(1) {
         write_frames(&rt, path.as_str(), &frames)?;
     }
-    let mut image = vec![in rt.alloc(); 0xFFu8; 61056]?;
-    let memory = LentImage::over(&mut image, Held::fresh(KEY, KEK), Supply::NoEnd)?;
-    story(&rt, memory, &frames)
+    let mut image = vec![in rt.alloc(); 0xFFu8; MAP_SIZE]?;
+    let image = sized(&mut image).ok_or(Fault::ImageSize)?;
+    let memory: LentImage = story(&rt, Board::fresh(image, KEY, KEK), &frames)?;
+    let (_image, _held, _supply) = memory.into_parts();
+    Ok(())
 }

@@ -1,8 +1,11 @@
 -- Numbers in columns, a digit at a time.
-use Rattle.std.proofs.Common.{◌≡◌, ℕ, ◌+◌, ◌-◌, ◌*◌, ◌/◌, ◌%◌, ◌^◌, ◌<◌, ◌≤◌, List, [], ◌∷◌, ◌++◌, length, replicate, decimal, sym, ap, ◌∙◌, ap₂, arith}
+use Rattle.std.proofs.Common.{◌≡◌, ℕ, ◌+◌, ◌-◌, ◌*◌, ◌/◌, ◌%◌, ◌^◌, ◌<◌, ◌≤◌, List, [], ◌∷◌, ◌++◌, Option, length, replicate, decimal, sym, ap, ◌∙◌, ap₂, arith}
 use Rattle.std.proofs.lemmas.Fmt.{decimal_digit, decimal_step}
 use Rattle.std.proofs.lemmas.List.{append_assoc, length-append, length_push, length-replicate}
-use Rattle.listing.specs.Rows.{in_four_columns, right_justified}
+use Rattle.fault.specs.declared.Fault.{Fault}
+use Rattle.listing.specs.declared.rows.Detail.{Detail}
+use Rattle.listing.specs.declared.rows.Detail.TheVariants.{Number, Place}
+use Rattle.listing.specs.Rows.{detail_columns, detail_width, in_four_columns, left_justified, refusal_layer, refusal_place, right_justified}
 
 -- one digit, behind spaces
 pub justified_digit : (w n : ℕ) → n < 10 → replicate (w - 1) 32 ++ (48 + n % 10) ∷ [] ≡ right_justified w n
@@ -28,3 +31,15 @@ justified_wide w n =
 pub fours_wide : (ns : List ℕ) → 4 * length ns ≤ length (in_four_columns ns)
 fours_wide [] = omega arith
 fours_wide (n ∷ ns) = omega (arith, length-append (right_justified 4 n) (in_four_columns ns), justified_wide 4 n, fours_wide ns)
+
+name_wide : (w : ℕ) (name : List ℕ) → w ≤ length (left_justified w name)
+name_wide w name =
+    let k = w - length name in
+    omega (arith, length-append name (replicate k 32), length-replicate {A = ℕ} k 32)
+
+pub detail_wide : (d : Detail) (f : Option Fault) → detail_width d ≤ length (detail_columns d f)
+detail_wide Number f = omega arith
+detail_wide Place f =
+    let layer = left_justified 7 (refusal_layer f) in
+    let place = right_justified 11 (refusal_place f) in
+    omega (arith, length-append layer place, name_wide 7 (refusal_layer f), justified_wide 11 (refusal_place f))

@@ -42,3 +42,13 @@ abbrev pub line_event : List ℕ → Result Event Fault
 line_event line =
     then (check (length line == 12) BadLine)
     (ok_or (and_then (justified_decimal_read (drop 1 line)) (event_of (slice_index line 0))) BadLine)
+
+-- A byte at the front of the first line, if there is one.
+abbrev pub before_first : ℕ → List (List ℕ) → List (List ℕ)
+before_first b [] = []
+before_first b (line ∷ lines) = (b ∷ line) ∷ lines
+
+-- The lines of a listing's bytes, each up to its 0x0A and without it; bytes behind the last 0x0A are none.
+abbrev pub whole_lines : List ℕ → List (List ℕ)
+whole_lines [] = []
+whole_lines (b ∷ bs) = cond (b == 0x0A) ([] ∷ whole_lines bs) (before_first b (whole_lines bs))

@@ -4,7 +4,7 @@ ghost use Rattle.memory.specs.Areas.{holds, size, erase_last, place_in, some_hol
 
 use fault::Fault;
 
-#[derive(Clone, Copy, PartialEq, Eq, Debug)]
+#[derive(Clone, Copy)]
 pub struct Area {
     pub first: u32,
     pub last: u32,

@@ -4,20 +4,20 @@ ghost use Rattle.memory.specs.Held.{slot_place, slot_of, held_key, fresh_held};
 
 use fault::Fault;
 
-#[derive(Clone, Copy, PartialEq, Eq, Debug)]
+#[derive(Clone, Copy)]
 pub struct KeyRecord {
     pub key: [u8; 16],
     pub version: u8,
 }
 
 // The data key, or the key-encryption key.
-#[derive(Clone, Copy, PartialEq, Eq, Debug)]
+#[derive(Clone, Copy)]
 pub enum KeySlot {
     Data,
     Kek,
 }
 
-#[derive(Clone, Copy, PartialEq, Eq, Debug)]
+#[derive(Clone, Copy)]
 pub struct Held {
     pub version: u8,
     // The unfinished mark: set while an update is under way.

@@ -7,7 +7,7 @@ ghost use Rattle.memory.specs.Supply.{lit, spent};
 use fault::Fault;
 
 // An enum of its own, since None of an Option<u32> would read as no supply.
-#[derive(Clone, Copy, PartialEq, Eq, Debug)]
+#[derive(Clone, Copy)]
 pub enum Supply {
     NoEnd,
     Steps(u32),

@@ -1,4 +1,5 @@
-// The published vectors, as tests: FIPS 197, the authors' test cases for GCM, and the worked commands of the protocol guide.
+// The published vectors, as tests: FIPS 197, the authors' test cases for GCM, and the worked commands of the protocol guide; and the table of
+// refusals in docs/RULES.md.
 #![tactic(auto)]
 
 #[cfg(test)]
@@ -184,6 +185,52 @@ mod tests {
         )?;
         assert!(rt; n == 56);
         assert!(rt; &out[0..56] == frame.as_slice() && out[56] == 0xEE);
+        Ok(())
+    }
+}
+
+#[cfg(test)]
+mod refusals {
+    use fault::Fault;
+    use fault::Fault::*;
+    use std::test::Fail;
+
+    // One line for each refusal, with its number, layer and place as they are printed; the table of
+    // docs/RULES.md has the same rows (tests/refusal_table.sh).
+    const TABLE: [(Fault, &str); 22] = [
+        (ReplyShort, "1, layer call, place 0"),
+        (WorkShort, "2, layer call, place 0"),
+        (Dark, "3, layer memory, place 0"),
+        (ImageSize, "4, layer call, place 0"),
+        (DataCount, "5, layer call, place 0"),
+        (OutputShort, "6, layer call, place 0"),
+        (OutsideMap, "7, layer call, place 0"),
+        (BadLine, "8, layer call, place 0"),
+        (UnknownCommand(0xFE), "9, layer command, place 254"),
+        (PacketLength(300), "10, layer command, place 300"),
+        (BadIv(14), "11, layer cipher, place 14"),
+        (NotOpened, "12, layer cipher, place 0"),
+        (BadNumber(0x1234), "20, layer session, place 4660"),
+        (MayNotOpen(0x0101), "21, layer session, place 257"),
+        (OutOfTurn(0xABCD), "22, layer session, place 43981"),
+        (OutsideArea(0x14000), "23, layer memory, place 81920"),
+        (BadKeyType(0xFD), "30, layer keys, place 253"),
+        (OldKey(0xC8), "31, layer keys, place 200"),
+        (NoHeader(0x7F), "81, layer frame, place 127"),
+        (BadChecksum(0xC460), "82, layer frame, place 50272"),
+        (NoLength, "83, layer frame, place 0"),
+        (TooLong(0x8001), "84, layer frame, place 32769"),
+    ];
+
+    #[test]
+    fn each_refusal_is_that_of_the_table(rt: HostRuntime) -> Result<(), Fail> {
+        for (fault, text) in &TABLE {
+            let printed = format!(in rt.alloc(); "{fault}")?;
+            assert_eq!(rt; printed.as_str(), *text);
+            let (number, layer, place) = (fault.number(), fault.layer().name(), fault.place());
+            let told = format!(in rt.alloc(); "{number}, layer {layer}, place {place}")?;
+            assert_eq!(rt; told.as_str(), *text);
+        }
         Ok(())
     }
 }

@@ -14,7 +14,7 @@ use memory::Supply;
 use std::fmt;
 
 // What a boot question answers: an application to start, a blank reset vector, or an unfinished update.
-#[derive(Clone, Copy, PartialEq, Eq, Debug)]
+#[derive(Clone, Copy)]
 pub enum Boot {
     Application,
     Blank,
@@ -47,14 +47,14 @@ impl fmt::Display for Boot {
 }
 
 // The session: none, or an update that expects this packet number, of so many. An enum of its own, since the rules speak of a closed session.
-#[derive(Clone, Copy, PartialEq, Eq, Debug)]
+#[derive(Clone, Copy)]
 pub enum Session {
     Closed,
     Expects(u16, u16),
 }
 
 // What a call gives to the board.
-#[derive(Clone, Copy, PartialEq, Eq, Debug)]
+#[derive(Clone, Copy)]
 pub enum Event {
     // A byte, with the lengths of the reply and the work buffer.
     Byte(u8, usize, usize),
@@ -65,7 +65,7 @@ pub enum Event {
 }
 
 // What a core command asks for, by its first byte and its length.
-#[derive(Clone, Copy, PartialEq, Eq, Debug)]
+#[derive(Clone, Copy)]
 pub enum Command {
     MassErase,
     Version,

@@ -6,7 +6,7 @@ ghost use Rattle.speed.specs.Sending.{obeyed};
 
 use board::{Answer, Board};
 use cipher::PacketCipher;
-use memory::Memory;
+use memory::Powered;
 use rules::Event;
 use std::alloc::{AllocError, Global};
 
@@ -18,7 +18,7 @@ fn is_obeyed(answer: &Answer) -> bool
 }
 
 // Makes calls on a board, and says how many of them obeyed a core command.
-pub fn obey<M: Memory, C: PacketCipher>(
+pub fn obey<M: Powered, C: PacketCipher>(
     heap: Global,
     board: &mut Board<M, C>,
     calls: &[Event],

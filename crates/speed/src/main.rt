@@ -11,20 +11,21 @@ mod sending;
 mod work;
 
 use anyhow::anyhow;
-use memory::MAP_SIZE;
+use fault::Fault;
+use memory::{MAP_SIZE, sized};
 use std::env;
 use work::{ALL, Work};
 
 const FEW: u32 = 3;
 
-fn try_out(rt: &HostRuntime, image: &mut [u8], work: Work) -> anyhow::Result<()> {
+fn try_out(rt: &HostRuntime, image: &mut [u8; MAP_SIZE], work: Work) -> anyhow::Result<()> {
     let turn = work.turn(rt, image, FEW)?;
     println!(rt; "{work}: {} of {FEW} done", turn.done)?;
     Ok(())
 }
 
 // The least time of a piece in five turns.
-fn least(rt: &HostRuntime, image: &mut [u8], work: Work) -> anyhow::Result<u128> {
+fn least(rt: &HostRuntime, image: &mut [u8; MAP_SIZE], work: Work) -> anyhow::Result<u128> {
     let pieces = work.pieces();
     let mut least = u128::MAX;
     for _ in 0..5 {
@@ -37,7 +38,7 @@ fn least(rt: &HostRuntime, image: &mut [u8], work: Work) -> anyhow::Result<u128>
     Ok(least)
 }
 
-fn measure(rt: &HostRuntime, image: &mut [u8], work: Work) -> anyhow::Result<()> {
+fn measure(rt: &HostRuntime, image: &mut [u8; MAP_SIZE], work: Work) -> anyhow::Result<()> {
     let least = least(rt, image, work)?;
     println!(rt; "{work} {least}")?;
     Ok(())
@@ -48,11 +49,12 @@ fn main(rt: HostRuntime) -> anyhow::Result<()> {
         .nth(1)
         .is_some_and(|word| word.as_str() == "measure");
     let mut image = vec![in rt.alloc(); 0u8; MAP_SIZE]?;
+    let image = sized(&mut image).ok_or(Fault::ImageSize)?;
     for work in ALL {
         if measures {
-            measure(&rt, &mut image, work)?;
+            measure(&rt, image, work)?;
         } else {
-            try_out(&rt, &mut image, work)?;
+            try_out(&rt, image, work)?;
         }
     }
     Ok(())

@@ -11,7 +11,7 @@ use crate::opening::{full_body, opens};
 use crate::sending::{erases, updates};
 use board::Board;
 use cipher::{Aes128, BlockCipher, Ccm, Gcm, PacketCipher};
-use memory::{LentImage, Memory};
+use memory::{LentImage, MAP_SIZE, Memory, Powered};
 use rules::Event;
 use std::fmt;
 use std::time::Instant;
@@ -66,10 +66,10 @@ fn open<C: PacketCipher>(rt: &HostRuntime, iv: &[u8; 16], pieces: u32) -> anyhow
 }
 
 // Makes calls on a fresh board over an image.
-fn call(rt: &HostRuntime, image: &mut [u8], calls: &[Event]) -> anyhow::Result<Turn>
+fn call(rt: &HostRuntime, image: &mut [u8; MAP_SIZE], calls: &[Event]) -> anyhow::Result<Turn>
     ensures { (g : Given) → g.image ≡ image.old → g.data_key_bytes ≡ replicate 16 7 → g.kek_bytes ≡ replicate 16 9 → IfOk result (λ turn. turn.done ≡ obeyed_of g calls.now) }
 {
-    let mut board: Board<LentImage, Ccm<Aes128>> = Board::fresh(image, KEY, KEK)?;
+    let mut board: Board<LentImage, Ccm<Aes128>> = Board::fresh(image, KEY, KEK);
     let start = Instant::now(rt)?;
     let done = obey(rt.alloc(), &mut board, calls)?;
     Ok(Turn {
@@ -121,7 +121,12 @@ impl Work {
     }
 
     // Does so many pieces, on an image as long as the map; of packets at most 255, one for each version.
-    pub fn turn(self, rt: &HostRuntime, image: &mut [u8], pieces: u32) -> anyhow::Result<Turn>
+    pub fn turn(
+        self,
+        rt: &HostRuntime,
+        image: &mut [u8; MAP_SIZE],
+        pieces: u32,
+    ) -> anyhow::Result<Turn>
         ensures all { IfOk result (λ turn. self ≢ Packet → self ≢ Erase → turn.done ≡ pieces) }
         ensures obeyed { (g : Given) → g.image ≡ image.old → g.data_key_bytes ≡ replicate 16 7 → g.kek_bytes ≡ replicate 16 9 → IfOk result (λ turn. (self ≡ Packet → turn.done ≡ obeyed_of g (first_packet_calls (replicate 16 7) (min pieces 255))) × (self ≡ Erase → turn.done ≡ obeyed_of g (erases_calls pieces))) }
     {

@@ -1,4 +1,5 @@
--- Lemmas on the reading and the writing of digits.
+-- Lemmas on the reading and the writing of digits, and on what a writer holds.
 mod HexReads
 mod HexTexts
 mod Numerals
+pub mod Writers

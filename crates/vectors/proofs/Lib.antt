@@ -1,2 +1,3 @@
 mod Fronts
 pub mod CaseWords
+mod Streaming

@@ -3,3 +3,4 @@ pub mod Answers
 pub mod Cases
 pub mod Words
 pub mod Texts
+pub mod Streams
