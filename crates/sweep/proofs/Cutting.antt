@@ -11,7 +11,6 @@ use Rattle.rules.specs.declared.Event.{Event}
 use Rattle.rules.specs.declared.Event.TheVariants.{PowerUp}
 use Rattle.rules.specs.Board.{State, run, step}
 use Rattle.sweep.specs.Cuts.{board_on, cut_at, cut_of, half_of, power_back, said_at, steps_of, steps_taken}
-use Rattle.sweep.specs.declared.cut.Cut.{Cut}
 
 -- the boards s and t before what is sent first and again, the board u and v behind it, and the memories that were saved
 pub cut_joined : (n : ℕ) (calls more : List Event) (m saved last : Meaning) (s t u v : State) (gone back again : Option Boot) (first second : Bool)

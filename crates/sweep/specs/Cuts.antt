@@ -67,7 +67,7 @@ cut_of n calls more m = record {
   back = said_at (ccm aes) (back_board n calls m);
   again = said_at (ccm aes) (again_board n calls more m);
   half = half_of (said_at (ccm aes) (back_board n calls m)) m m (memory_of (back_board n calls m))
-  || half_of (said_at (ccm aes) (again_board n calls more m)) m (memory_of (back_board n calls m)) (memory_of (again_board n calls more m));
+      || half_of (said_at (ccm aes) (again_board n calls more m)) m (memory_of (back_board n calls m)) (memory_of (again_board n calls more m));
 }
 
 -- how many of 1,000,000 steps are used up; 0 where the supply has no end

@@ -1,5 +1,5 @@
 -- Images as they are kept, and what a snapshot of a memory says.
-use Rattle.std.specs.Prelude.{◌≡◌, ℕ, Bool, List, codes, nat_eq}
+use Rattle.std.specs.Prelude.{ℕ, Bool, List, codes, nat_eq}
 use lib.Pointwise.{pointwise}
 use Rattle.memory.specs.Lent.{meaning_of}
 use Rattle.memory.specs.Meaning.{Meaning}

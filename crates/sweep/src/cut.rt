@@ -128,8 +128,14 @@ pub(crate) fn cut_power<M: Kept>(
     let again = ask_after(heap, &mut board, &plan.again)?;
     let memory = board.into_memory().saved(&mut room.again)?;
     let (half_back, memory) = is_half(memory, back, old, old, &room.back, &mut room.laid)?;
-    let (half_again, memory) =
-        is_half(memory, again, old, &room.back, &room.again, &mut room.laid)?;
+    let (half_again, memory) = is_half(
+        memory,
+        again,
+        old,
+        &room.back,
+        &room.again,
+        &mut room.laid,
+    )?;
     let cut = Cut {
         gone,
         back,

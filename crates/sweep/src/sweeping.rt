@@ -112,7 +112,16 @@ pub(crate) fn sweep<M: Kept>(
     let mut report = Report::new(steps);
     for kept in 0..steps {
         let step = kept + 1;
-        memory = sweep_step(rt.alloc(), memory, old, room, plan, every, step, &mut report)?;
+        memory = sweep_step(
+            rt.alloc(),
+            memory,
+            old,
+            room,
+            plan,
+            every,
+            step,
+            &mut report,
+        )?;
         progress(rt, plan, M::KIND, step, steps)?;
     }
     Ok((report, memory))
