@@ -3,4 +3,5 @@ pub mod Counting
 pub mod Cutting
 pub mod Fillers
 pub mod Fixed
+pub mod Halves
 pub mod Sending

@@ -1,5 +1,5 @@
 -- What a sweep counts.
-use Rattle.std.specs.Prelude.{ℕ, zero, suc, ◌-◌, ◌%◌, Bool, cond, ◌||◌, List, ◌++◌, ◌==◌}
+use Rattle.std.specs.Prelude.{◌≡◌, ℕ, zero, suc, ◌+◌, ◌-◌, ◌%◌, ◌<◌, Bool, true, false, cond, ◌||◌, List, ◌++◌, ◌==◌}
 use Rattle.example.specs.Frames.{erase_calls}
 use Rattle.memory.specs.Meaning.{Meaning}
 use Rattle.rules.specs.declared.Event.{Event}
@@ -42,6 +42,11 @@ report_of every calls more m (suc n) = cut_at_step every calls more m (suc n) (r
 -- all of them
 abbrev pub swept : ℕ → List Event → List Event → Meaning → Report
 swept every calls more m = report_of every calls more m (steps_of calls m)
+
+-- Where no half program is counted in the first n steps, none was booted: at no step of them at which the power is cut.
+abbrev pub NoneHalf : ℕ → List Event → List Event → Meaning → ℕ → Type 0
+NoneHalf every calls more m n =
+    (report_of every calls more m n).counts.half ≡ 0 → (k : ℕ) → k < n → is_cut every (steps_of calls m) (k + 1) ≡ true → (cut_of k calls more m).half ≡ false
 
 -- the counts of all sweeps on the old program's memory: of an update, sent again; of a key update, with the update under the new key; and of a mass erase, with an update
 abbrev pub counts_of_all : ℕ → Meaning → Counts

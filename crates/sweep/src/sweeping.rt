@@ -1,7 +1,7 @@
 // A sweep: the power of a board is cut at one storing step after the other.
-ghost use Rattle.std.specs.Prelude.{◌≡◌, ◌<◌, IfOk, OnOk};
+ghost use Rattle.std.specs.Prelude.{◌≡◌, ℕ, ◌<◌, IfOk, OnOk};
 ghost use Rattle.sweep.specs.Kinds.{snapshot_meaning};
-ghost use Rattle.sweep.specs.Swept.{cut_at_step, is_cut, no_cut, noted_cut, swept};
+ghost use Rattle.sweep.specs.Swept.{NoneHalf, cut_at_step, is_cut, no_cut, noted_cut, swept};
 
 use crate::counts::Counts;
 use crate::cut::{Cut, Room, count_steps, cut_power};
@@ -97,6 +97,7 @@ fn progress(
 }
 
 // Cuts the power at a plan's first step, its last, and each whose number is a multiple of `every`, each time on what stands in a snapshot.
+#[tactic(auto, using(crate::proofs::Halves::none_half))]
 pub(crate) fn sweep<M: Kept>(
     rt: &HostRuntime,
     memory: M,
@@ -106,7 +107,8 @@ pub(crate) fn sweep<M: Kept>(
     every: u32,
 ) -> anyhow::Result<(Report, M)>
     requires { 0 < every }
-    ensures { IfOk result (λ r. r.0 ≡ swept every plan.now.cut.items plan.now.again.items (snapshot_meaning M.clear old.now)) }
+    ensures report { IfOk result (λ r. r.0 ≡ swept every plan.now.cut.items plan.now.again.items (snapshot_meaning M.clear old.now)) }
+    ensures none_half { (n : ℕ) → NoneHalf every plan.now.cut.items plan.now.again.items (snapshot_meaning M.clear old.now) n }
 {
     let (steps, mut memory) = count_steps(rt.alloc(), memory, old, &plan.cut)?;
     let mut report = Report::new(steps);

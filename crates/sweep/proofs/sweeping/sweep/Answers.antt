@@ -13,8 +13,8 @@ loop-kept-init g c =
 pub loop-kept-preserved : goal.loop-kept-preserved
 loop-kept-preserved g c = counted_more _ _ _ _ _ _ _ c.loop-kept.invariant c.in_ok-memory.ensures
 
-pub returns : goal.returns
-returns g c =
+pub returns-clause-report : goal.returns-clause-report
+returns-clause-report g c =
     let m = snapshot_meaning g.M.Kept.clear c.args.old.now in
     let all : c.loop-kept.kept ≡ c.in_ok-steps.steps = omega (arith, c.loop-kept-test.false) in
     c.loop-kept.invariant ∙ ap (report_of c.args.every c.args.plan.now.cut.items c.args.plan.now.again.items m) (all ∙ c.in_ok-steps.ensures ∙ ap (λ calls. steps_of calls m) c.deref.ensures.value)
