@@ -48,7 +48,8 @@ abbrev pub NoneHalf : ℕ → List Event → List Event → Meaning → ℕ → 
 NoneHalf every calls more m n =
     (report_of every calls more m n).counts.half ≡ 0 → (k : ℕ) → k < n → is_cut every (steps_of calls m) (k + 1) ≡ true → (cut_of k calls more m).half ≡ false
 
--- the counts of all sweeps on the old program's memory: of an update, sent again; of a key update, with the update under the new key; and of a mass erase, with an update
+-- the counts of all sweeps on the old program's memory: of an update, sent again; of a key update, with the update under the new key; and of a
+-- mass erase, with an update
 abbrev pub counts_of_all : ℕ → Meaning → Counts
 counts_of_all every m =
     both (both (swept 1 (update_calls KEY) (update_calls KEY) m).counts (swept 1 key_calls (key_calls ++ update_calls NEW_KEY) m).counts)
