@@ -1,4 +1,7 @@
+pub mod Asking
+pub mod Counting
+pub mod Cutting
 pub mod Fillers
-pub mod Preparing
+pub mod Fixed
+pub mod Halves
 pub mod Sending
-pub mod Sweepings

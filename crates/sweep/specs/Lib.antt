@@ -1,4 +1,5 @@
 -- What a sweep counts, shows and compares.
+pub mod Alike
 pub mod Bars
 pub mod Counts
 pub mod Cuts
@@ -6,6 +7,6 @@ pub mod Fillings
 pub mod Kinds
 pub mod Plans
 pub mod Programs
-pub mod Sweeps
+pub mod Strides
 pub mod Swept
 pub mod Tallies

@@ -1,21 +1,19 @@
 // The memories that are swept: the lent image, and the scrambler over it.
-ghost use Rattle.std.specs.Prelude.{◌≡◌, ◌≤◌, length, is_ok, IfOk, OnOk, Some, ◌==◌};
-ghost use Rattle.cipher.specs.Aes.{aes};
-ghost use Rattle.cipher.specs.Ccm.{ccm};
-ghost use Rattle.memory.specs.Areas.{map_size};
-ghost use Rattle.rules.specs.Board.{run};
-ghost use Rattle.sweep.specs.Cuts.{cut_at, power_back, said_at};
-ghost use Rattle.sweep.specs.Kinds.{board_of_kind, kind_text};
-ghost use Rattle.sweep.specs.Programs.{prepared_answer};
+ghost use Rattle.std.specs.Prelude.{◌≡◌, ℕ, List, Some, IfOk, OnOk};
+ghost use Rattle.memory.specs.Scrambled.{clear};
+ghost use Rattle.sweep.specs.Alike.{alike_clear};
+ghost use Rattle.sweep.specs.Kinds.{kind_text, same, snapshot_meaning};
 
-use crate::cut::{Cut, again, cut_power, steps_of};
-use crate::programs::{fill, lay_program};
-use memory::{Held, LentImage, Memory, Scrambler, Supply};
-use rules::{Boot, Event};
-use std::alloc::Global;
+use crate::snapshot::Snapshot;
+use anyhow::anyhow;
+use memory::{LentImage, Memory, Powered, Scrambler};
 use std::fmt;
 
-const FIXED: u8 = 0x5A;
+// The first address of the map.
+const FIRST: u32 = 0x1800;
+
+// The byte that the scrambler scrambles with.
+pub(crate) const FIXED: u8 = 0x5A;
 
 #[derive(Clone, Copy)]
 pub enum Kind {
@@ -34,91 +32,69 @@ impl fmt::Display for Kind {
     }
 }
 
-fn scrambled(below: LentImage<'_>) -> Scrambler<LentImage<'_>>
-    ensures below { result.below ≡ below.entry }
-    ensures fixed { result.fixed ≡ 0x5A }
-{
-    Scrambler {
-        below,
-        fixed: FIXED,
+// A memory on an image, which can be saved to a snapshot and restored from one.
+pub(crate) trait Kept: Powered + Drop {
+    // The clear bytes of an image that it keeps.
+    ghost clear: { List ℕ → List ℕ };
+
+    // Two images are the same in each byte as they are kept exactly where they are the same when they are clear.
+    ghost alike: { (xs ys : List ℕ) → same (clear xs) (clear ys) ≡ same xs ys };
+
+    const KIND: Kind;
+
+    // The memory with what stands in a snapshot.
+    fn restored(self, from: &Snapshot) -> Self
+        ensures { Self.Memory.meaning result ≡ snapshot_meaning clear from.now };
+
+    // Saves what stands in the memory, which stays as it is.
+    fn saved(self, to: &mut Snapshot) -> anyhow::Result<Self>
+        ensures stays { IfOk result (λ m. Self.Memory.meaning m ≡ Self.Memory.meaning self) }
+        ensures saved { OnOk result (snapshot_meaning clear to.new ≡ Self.Memory.meaning self) };
+}
+
+impl<'a> Kept for LentImage<'a> {
+    ghost use Rattle.std.specs.Prelude.{refl};
+
+    ghost clear = { λ xs. xs };
+
+    ghost alike = { λ xs ys. refl };
+
+    const KIND: Kind = Kind::Lent;
+
+    fn restored(self, from: &Snapshot) -> LentImage<'a> {
+        let (image, _, _) = self.into_parts();
+        image.copy_from_slice(&from.image);
+        LentImage::over(image, from.held, from.supply)
+    }
+
+    fn saved(self, to: &mut Snapshot) -> anyhow::Result<LentImage<'a>> {
+        let (image, held, supply) = self.into_parts();
+        to.image.copy_from_slice(image.as_slice());
+        to.held = held;
+        to.supply = supply;
+        Ok(LentImage::over(image, held, supply))
     }
 }
 
-// Fills an image of the kind, and lays the program of a version over it.
-fn prepare<M: Memory + Drop>(mut memory: M, version: u8) -> anyhow::Result<()>
-    ensures { is_ok result ≡ is_ok (prepared_answer version (M.meaning memory)) }
-{
-    fill(&mut memory)?;
-    lay_program(&mut memory, version)?;
-    Ok(())
-}
+impl<'a> Kept for Scrambler<LentImage<'a>> {
+    ghost clear = { clear 0x5A };
 
-impl Kind {
-    // Fills an image, and lays the program of a version over it; refuses an image that is not as long as the map.
-    pub(crate) fn prepare(self, image: &mut [u8], held: Held, version: u8) -> anyhow::Result<()>
-        ensures { is_ok result ≡ (length image.old == map_size) }
-    {
-        let lent = LentImage::over(image, held, Supply::NoEnd)?;
-        match self {
-            Kind::Lent => prepare(lent, version),
-            Kind::Scrambled => prepare(scrambled(lent), version),
+    ghost alike = { alike_clear 0x5A };
+
+    const KIND: Kind = Kind::Scrambled;
+
+    fn restored(self, from: &Snapshot) -> Scrambler<LentImage<'a>> {
+        Scrambler::over(self.into_below().restored(from), FIXED)
+    }
+
+    // No contract of a memory says that a scrambler's fixed byte is still the one that it was made with. The first byte of the image, read through
+    // the scrambler and read below it, shows that it is.
+    fn saved(mut self, to: &mut Snapshot) -> anyhow::Result<Scrambler<LentImage<'a>>> {
+        let first = self.read(FIRST)?;
+        let below = self.into_below().saved(to)?;
+        if to.image[0] ^ first != FIXED {
+            return Err(anyhow!("the scrambler scrambles with another byte"));
         }
-    }
-
-    // How many storing steps the calls take on a board over an image. Refuses an image that is not as long as the map, as do the two below.
-    pub(crate) fn steps_of(
-        self,
-        heap: Global,
-        image: &mut [u8],
-        held: Held,
-        calls: &[Event],
-    ) -> anyhow::Result<u32>
-        ensures sized { OnOk result (length image.old ≡ map_size) }
-        ensures most { IfOk result (λ steps. steps ≤ 1000000) }
-    {
-        let mut lent = LentImage::over(image, held, Supply::NoEnd)?;
-        let steps = match self {
-            Kind::Lent => steps_of(heap, &mut lent, calls)?,
-            Kind::Scrambled => steps_of(heap, &mut scrambled(lent), calls)?,
-        };
-        Ok(steps)
-    }
-
-    pub(crate) fn cut(
-        self,
-        heap: Global,
-        image: &mut [u8],
-        held: Held,
-        calls: &[Event],
-        steps: u32,
-    ) -> anyhow::Result<Cut>
-        ensures sized { OnOk result (length image.old ≡ map_size) }
-        ensures gone { IfOk result (λ cut. cut.gone ≡ said_at (ccm aes) (cut_at (ccm aes) steps calls.now (board_of_kind self image.old held))) }
-        ensures back { IfOk result (λ cut. cut.back ≡ said_at (ccm aes) (power_back (ccm aes) (cut_at (ccm aes) steps calls.now (board_of_kind self image.old held)))) }
-    {
-        let mut lent = LentImage::over(image, held, Supply::NoEnd)?;
-        let done = match self {
-            Kind::Lent => cut_power(heap, &mut lent, calls, steps)?,
-            Kind::Scrambled => cut_power(heap, &mut scrambled(lent), calls, steps)?,
-        };
-        Ok(done)
-    }
-
-    pub(crate) fn again(
-        self,
-        heap: Global,
-        image: &mut [u8],
-        held: Held,
-        calls: &[Event],
-    ) -> anyhow::Result<Option<Boot>>
-        ensures sized { OnOk result (length image.old ≡ map_size) }
-        ensures said { IfOk result (λ said. said ≡ said_at (ccm aes) (run (ccm aes) (board_of_kind self image.old held) calls.now)) }
-    {
-        let mut lent = LentImage::over(image, held, Supply::NoEnd)?;
-        let said = match self {
-            Kind::Lent => again(heap, &mut lent, calls)?,
-            Kind::Scrambled => again(heap, &mut scrambled(lent), calls)?,
-        };
-        Ok(said)
+        Ok(Scrambler::over(below, FIXED))
     }
 }

@@ -1,13 +1,11 @@
 // Two programs at the same places of the map, an old one and a new one, among bytes that fill the rest of it.
-ghost use Rattle.std.specs.Prelude.{◌≡◌, ◌%◌, true, length};
+ghost use Rattle.std.specs.Prelude.{◌≡◌, ◌%◌, true, OnOk};
 ghost use Rattle.memory.specs.Meaning.{Performs, all_in_map};
 ghost use Rattle.sweep.specs.Fillings.{area_fillers, map_fillers};
-ghost use Rattle.sweep.specs.Programs.{program_answer, program_left, with_program};
+ghost use Rattle.sweep.specs.Programs.{prepared, program_answer, program_left};
 
 use fault::Fault;
 use memory::{AREAS, Area, Memory, store_data};
-
-// In an image a program stands at the places 512 to 1023, the start of the lower area, and 44670 and 44671, the reset vector.
 
 // What stands at an address where there is no program: never 0xFF, so that each step of an erase shows.
 fn filler(address: u32) -> u8
@@ -37,7 +35,7 @@ pub(crate) fn fill<M: Memory>(memory: &mut M) -> Result<(), Fault>
 }
 
 // Lays the program of a version over what stands there: 512 bytes of the version's number, and the reset vector.
-pub fn lay_program<M: Memory>(memory: &mut M, version: u8) -> Result<(), Fault>
+pub(crate) fn lay_program<M: Memory>(memory: &mut M, version: u8) -> Result<(), Fault>
     ensures after { M.meaning memory.new ≡ program_left version (M.meaning memory.old) }
     ensures value { result ≡ program_answer version (M.meaning memory.old) }
 {
@@ -45,12 +43,11 @@ pub fn lay_program<M: Memory>(memory: &mut M, version: u8) -> Result<(), Fault>
     store_data(memory, 0xFFFE, &[0x00, 0x44])
 }
 
-// Lays the program that stands in one image over another image.
-pub fn copy_program(to: &mut [u8], from: &[u8])
-    requires to { length to.old ≡ 61056 }
-    requires from { length from.now ≡ 61056 }
-    ensures { to.new ≡ with_program from.now to.old }
+// Fills the map, and lays the program of a version over it.
+pub(crate) fn prepare<M: Memory>(memory: &mut M, version: u8) -> Result<(), Fault>
+    ensures { OnOk result (M.meaning memory.new ≡ prepared version (M.meaning memory.old)) }
 {
-    to[512..1024].copy_from_slice(&from[512..1024]);
-    to[44670..44672].copy_from_slice(&from[44670..44672]);
+    fill(memory)?;
+    lay_program(memory, version)?;
+    Ok(())
 }
