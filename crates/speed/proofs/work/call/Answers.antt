@@ -10,6 +10,5 @@ use Rattle.speed.proofs.work.call.Goals as goal
 pub returns : goal.returns
 returns c =
     λ g i d k.
-    let e = c.in_ok-board.ensures.fresh g i d k in
-    let b : c.in_ok-board.board ≡ start g = cc in
-    c.in_ok-done.ensures.count ∙ ap (λ (s : State). count_by obeyed (answers (history (ccm aes) s c.args.calls.now))) b
+    let e = c.fresh-board.ensures.fresh g i d k in
+    c.in_ok-done.ensures.count ∙ ap (λ (s : State). count_by obeyed (answers (history (ccm aes) s c.args.calls.now))) e
