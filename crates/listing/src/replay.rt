@@ -10,7 +10,7 @@ use rules::Event;
 use std::alloc::{AllocError, Global};
 
 // The number of the event after one; events are numbered modulo 1,000,000.
-pub fn number_after(number: u64) -> u64
+pub(crate) fn number_after(number: u64) -> u64
     ensures { result ≡ next_number number }
 {
     (number % 1_000_000 + 1) % 1_000_000

@@ -13,13 +13,13 @@ pub struct Area {
 }
 
 impl Area {
-    pub fn holds(&self, address: u32) -> bool
+    pub(crate) fn holds(&self, address: u32) -> bool
         ensures { result ≡ holds self.now address }
     {
         (self.first..=self.last).contains(&address)
     }
 
-    pub fn size(&self) -> usize
+    pub(crate) fn size(&self) -> usize
         ensures value { result ≡ size self.now }
         ensures bound { result ≤ 2 ^ 32 }
     {
@@ -74,7 +74,7 @@ pub const VECTOR_LOW: u32 = 0xFFFE;
 pub const VECTOR_HIGH: u32 = 0xFFFF;
 
 // The place of an address in the image of some areas, in their order.
-pub fn place_in(areas: &[Area; 4], address: u32) -> Option<usize>
+pub(crate) fn place_in(areas: &[Area; 4], address: u32) -> Option<usize>
     ensures value { result ≡ place_in areas.now 0 address }
     ensures known { is_some result ≡ some_holds areas.now address }
 {
@@ -90,7 +90,7 @@ pub fn place_in(areas: &[Area; 4], address: u32) -> Option<usize>
 }
 
 // The place of an address in the image of the map.
-pub fn place_of(address: u32) -> Option<usize>
+pub(crate) fn place_of(address: u32) -> Option<usize>
     ensures value { result ≡ place address }
     ensures within { IfSome result (λ p. p < map_size) }
     ensures inverse { Inverse }

@@ -73,7 +73,7 @@ impl Held {
     }
 
     // Replaces the key record of a slot; the other one, version and mark stay.
-    pub fn put_key(&mut self, slot: KeySlot, record: KeyRecord)
+    pub(crate) fn put_key(&mut self, slot: KeySlot, record: KeyRecord)
         ensures after { self.new ≡ held_key slot «record» self.old }
         ensures other { (k : ℕ) (d : KeyRecord) → (k ≢ slot_place slot) → slice_index_or self.new.keys k d ≡ slice_index_or self.old.keys k d }
         ensures version { self.new.version ≡ self.old.version }

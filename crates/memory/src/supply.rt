@@ -15,7 +15,7 @@ pub enum Supply {
 
 impl Supply {
     // Whether one more step will be kept.
-    pub fn lit(&self) -> bool
+    pub(crate) fn lit(&self) -> bool
         ensures { result ≡ lit self.now }
     {
         match *self {
@@ -25,7 +25,7 @@ impl Supply {
     }
 
     // What is left after one step.
-    pub fn spent(&self) -> Supply
+    pub(crate) fn spent(&self) -> Supply
         ensures { result ≡ spent self.now }
     {
         match *self {
@@ -35,7 +35,7 @@ impl Supply {
     }
 
     // Takes one step off; refuses where none is left.
-    pub fn spend(&mut self) -> Result<(), Fault>
+    pub(crate) fn spend(&mut self) -> Result<(), Fault>
         ensures after { self.new ≡ (if lit self.old then spent self.old else self.old) }
         ensures value { result ≡ check (lit self.old) Dark }
     {
