@@ -5,6 +5,15 @@ use Rattle.board.specs.Outcomes.{Working, board_with}
 use Rattle.rules.specs.Receiver.{Receiver}
 use Rattle.rules.specs.Board.{State}
 use Rattle.rules.specs.Promises.{Given, start}
+use Rattle.board.specs.declared.board.Board.TheInside.{Inside as Board}
+use Rattle.board.specs.declared.device.Device.TheInside.{Inside as Device}
+
+-- a device and a board made anew of their fields: they have no others
+abbrev pub device_whole : {M : Type 0} → Device M → Device M
+device_whole d = record { memory = d.memory; session = d.session }
+
+abbrev pub board_whole : {M C : Type 0} → Board M C → Board M C
+board_whole b = record { device = b.device; receiver = b.receiver; dark = b.dark; cipher = b.cipher }
 
 -- a board of what it works on, a receiver and a power state
 abbrev pub board_of : Working → Receiver → Bool → State

@@ -39,7 +39,7 @@ pub struct Room {
 }
 
 impl Room {
-    pub fn new(heap: Global) -> Result<Room, AllocError> {
+    pub(crate) fn new(heap: Global) -> Result<Room, AllocError> {
         Ok(Room {
             back: Snapshot::new(heap)?,
             again: Snapshot::new(heap)?,
