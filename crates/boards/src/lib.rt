@@ -157,16 +157,26 @@ mod tests {
         boots(rt, board, 1)
     }
 
+    // All of these on a board over a memory, which is given back.
     fn all<M: Powered + Drop, C: PacketCipher>(
         rt: &impl Abort,
         memory: M,
         iv: &[u8; 16],
-    ) -> Result<(), Fail> {
+    ) -> Result<M, Fail> {
         let mut board: Board<M, C> = Board::new(memory);
         version(rt, &mut board)?;
         lengths(rt, &mut board)?;
         buffers(rt, &mut board);
-        update(rt, &mut board, iv)
+        update(rt, &mut board, iv)?;
+        Ok(board.into_memory())
+    }
+
+    // What the board left: version 1 without the mark, and the two bytes of the vector as they are kept.
+    fn left(rt: &impl Abort, memory: LentImage<'_>, low: u8, high: u8) {
+        let (image, held, supply) = memory.into_parts();
+        assert!(rt; image[44670] == low && image[44671] == high);
+        assert!(rt; held.version == 1 && !held.unfinished);
+        assert!(rt; matches!(supply, Supply::NoEnd));
     }
 
     fn lent(image: &mut [u8]) -> Result<LentImage<'_>, Fault> {
@@ -177,10 +187,12 @@ mod tests {
     // The calls of a cipher, over a lent image and then over a scrambler.
     fn calls<C: PacketCipher>(rt: &impl Abort, heap: Global, iv: &[u8; 16]) -> Result<(), Fail> {
         let mut image = vec![in heap; 0xFFu8; 61056]?;
-        all::<_, C>(rt, lent(&mut image)?, iv)?;
+        left(rt, all::<_, C>(rt, lent(&mut image)?, iv)?, 0x00, 0x44);
         let mut memory = Scrambler::over(lent(&mut image)?, 0x5A);
         memory.set_vector(0xFF, 0xFF)?;
-        all::<_, C>(rt, memory, iv)
+        let below = all::<_, C>(rt, memory, iv)?.into_below();
+        left(rt, below, 0xA4, 0xE1);
+        Ok(())
     }
 
     // What a board takes beside its memory, with both buffers, against the 910 bytes that it may take.
