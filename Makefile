@@ -1,6 +1,7 @@
 # make demo   prove what is needed, then seal, print and open packets, and tell the story of an update
 # make sweep  prove what is needed, then cut the power of a board at each of 121,992 storing steps, and tell what it says
-# make test   the gate: programs that must not build, rt ci, what the programs print and refuse; its last line is rt ci's, 'N passed, 0 failed'
+# make test   the gate: programs that must not build, rt ci, what the programs print, refuse and do when a write fails; its last line is rt ci's,
+#             'N passed, 0 failed'
 # make speed  prove what is needed, then measure opening beside mbedTLS and OpenSSL, and the board's calls (docs/SPEED.md); not in the gate
 # make times  prove each crate from nothing, one after the other, and tell the seconds of each (docs/SPEED.md); not in the gate
 .PHONY: demo sweep test speed times
@@ -21,6 +22,7 @@ sweep:
 
 test:
 	sh tests/expected.sh
+	sh tests/unsaid.sh
 	sh tests/refused.sh
 	sh tests/gate.sh
 
