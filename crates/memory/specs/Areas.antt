@@ -3,6 +3,7 @@ use Rattle.std.specs.Prelude.{◌≡◌, ℕ, zero, suc, ◌+◌, ◌-◌, ◌<�
 use Rattle.fault.specs.declared.Fault.{Fault}
 use Rattle.fault.specs.declared.Fault.TheVariants.{OutsideArea}
 use Rattle.memory.specs.declared.areas.Area.{Area}
+use Rattle.memory.specs.declared.areas.Range.{Range}
 
 -- whether an area holds an address
 abbrev pub holds : Area → ℕ → Bool
@@ -12,9 +13,9 @@ holds x a = nat_le x.first a && nat_le a x.last
 abbrev pub size : Area → ℕ
 size x = (x.last + 1) - x.first
 
--- the last address of an area that a mass erase blanks byte by byte: the reset vector is left out, since it is blanked before, as one step
-abbrev pub erase_last : Area → ℕ
-erase_last x = cond (holds x 0xFFFE) 0xFFFD x.last
+-- the last address of a range that a mass erase blanks byte by byte: the reset vector is left out, since it is blanked before, as one step
+abbrev pub erase_last : Range → ℕ
+erase_last r = cond (nat_le r.first 0xFFFE && nat_le 0xFFFE r.last) 0xFFFD r.last
 
 -- the place of an address in the image of some areas, in their order, from a base on
 abbrev pub place_in : List Area → ℕ → ℕ → Option ℕ
@@ -31,14 +32,19 @@ abbrev pub address_in : List Area → ℕ → ℕ
 address_in [] p = 0
 address_in (x ∷ xs) p = cond (nat_lt p (size x)) (x.first + p) (address_in xs (p - size x))
 
--- an area from its first to its last address, and from where on it is erased
-abbrev area : ℕ → ℕ → Option ℕ → Area
+-- the addresses from a first to a last
+abbrev range : ℕ → ℕ → Range
+range f l = record { first = f; last = l }
+
+-- an area from its first to its last address, and what is erased of it
+abbrev area : ℕ → ℕ → Option Range → Area
 area f l e = record { first = f; last = l; erase = e }
 
 -- the map: info, lower, table, upper
 unfoldable pub all_areas : List Area
 all_areas =
-    area 0x1800 0x19FF None ∷ area 0x4400 0xEFFF (Some 0x4400) ∷ area 0xFF80 0xFFFF (Some 0xFFC0) ∷ area 0x10000 0x13FFF (Some 0x10000) ∷ []
+    area 0x1800 0x19FF None ∷ area 0x4400 0xEFFF (Some (range 0x4400 0xEFFF)) ∷ area 0xFF80 0xFFFF (Some (range 0xFFC0 0xFFFF))
+    ∷ area 0x10000 0x13FFF (Some (range 0x10000 0x13FFF)) ∷ []
 
 -- how many bytes the map has
 abbrev pub map_size : ℕ

@@ -7,3 +7,4 @@ pub mod Steps
 pub mod Laws
 pub mod Lent
 pub mod Scrambled
+pub mod Lending

@@ -7,6 +7,7 @@ use Rattle.memory.specs.Areas.{all_areas, erase_last, holds, range_checked}
 use Rattle.memory.specs.Meaning.{Meaning, Step, answer_of, left_by, performed}
 use Rattle.memory.specs.Meaning.Step.{set_vector, store}
 use Rattle.memory.specs.declared.areas.Area.{Area}
+use Rattle.memory.specs.declared.areas.Range.{Range}
 
 -- the bytes of a list, upward from an address
 abbrev pub store_up : ℕ → List ℕ → List Step
@@ -26,14 +27,14 @@ unfoldable pub blanks : ℕ → ℕ → List Step
 blanks a zero = []
 blanks a (suc n) = store a 0xFF ∷ blanks (a + 1) n
 
--- the blanks from a first address, if there is one, to a last
-abbrev pub blanks_to : ℕ → Option ℕ → List Step
-blanks_to last None = []
-blanks_to last (Some first) = blanks first ((last + 1) - first)
+-- the blanks of a range, if there is one
+abbrev pub blanks_of : Option Range → List Step
+blanks_of None = []
+blanks_of (Some r) = blanks r.first ((erase_last r + 1) - r.first)
 
 -- what is erased of an area
 abbrev pub erased : Area → List Step
-erased x = blanks_to (erase_last x) x.erase
+erased x = blanks_of x.erase
 
 -- what a mass erase blanks of an area in its first round (true: the area of the vector) or its second (the others)
 abbrev pub round : Bool → Area → List Step

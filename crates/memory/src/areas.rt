@@ -4,12 +4,32 @@ ghost use Rattle.memory.specs.Areas.{holds, size, erase_last, place_in, some_hol
 
 use fault::Fault;
 
+// Addresses from a first to a last.
+#[derive(Clone, Copy)]
+pub struct Range {
+    pub first: u32,
+    pub last: u32,
+}
+
 #[derive(Clone, Copy)]
 pub struct Area {
     pub first: u32,
     pub last: u32,
-    // From where on a mass erase blanks it, if it does: to its last byte, or to the byte before the reset vector.
-    pub erase: Option<u32>,
+    // What a mass erase blanks of it, if anything.
+    pub erase: Option<Range>,
+}
+
+impl Range {
+    // The last address of it that an erase blanks byte by byte; the vector is left out.
+    pub(crate) fn erase_last(&self) -> u32
+        ensures { result ≡ erase_last self.now }
+    {
+        if (self.first..=self.last).contains(&VECTOR_LOW) {
+            VECTOR_LOW - 1
+        } else {
+            self.last
+        }
+    }
 }
 
 impl Area {
@@ -25,17 +45,6 @@ impl Area {
     {
         (self.last as usize + 1).saturating_sub(self.first as usize)
     }
-
-    // The last address that an erase blanks byte by byte; the vector is left out.
-    pub(crate) fn erase_last(&self) -> u32
-        ensures { result ≡ erase_last self.now }
-    {
-        if self.holds(VECTOR_LOW) {
-            VECTOR_LOW - 1
-        } else {
-            self.last
-        }
-    }
 }
 
 pub(crate) const INFO: Area = Area {
@@ -47,20 +56,29 @@ pub(crate) const INFO: Area = Area {
 pub(crate) const LOWER: Area = Area {
     first: 0x4400,
     last: 0xEFFF,
-    erase: Some(0x4400),
+    erase: Some(Range {
+        first: 0x4400,
+        last: 0xEFFF,
+    }),
 };
 
 // The vectors, the reset vector among them.
 pub(crate) const TABLE: Area = Area {
     first: 0xFF80,
     last: 0xFFFF,
-    erase: Some(0xFFC0),
+    erase: Some(Range {
+        first: 0xFFC0,
+        last: 0xFFFF,
+    }),
 };
 
 pub(crate) const UPPER: Area = Area {
     first: 0x10000,
     last: 0x13FFF,
-    erase: Some(0x10000),
+    erase: Some(Range {
+        first: 0x10000,
+        last: 0x13FFF,
+    }),
 };
 
 pub const AREAS: [Area; 4] = [INFO, LOWER, TABLE, UPPER];

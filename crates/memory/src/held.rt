@@ -1,5 +1,7 @@
 // The held record: the firmware version, the unfinished mark and the key table.
-ghost use Rattle.std.specs.Prelude.{◌≡◌, ℕ, ◌≢◌, slice_index_or};
+ghost use Rattle.std.specs.Prelude.{◌≡◌, ℕ, ◌≢◌, ◌<◌, length, slice_index_or};
+ghost use Rattle.std.specs.Borrow.{sem};
+ghost use Rattle.memory.specs.Lending.{LendsRecord};
 ghost use Rattle.memory.specs.Held.{slot_place, slot_of, held_key, fresh_held};
 
 use fault::Fault;
@@ -52,6 +54,14 @@ impl TryFrom<u8> for KeySlot {
     }
 }
 
+// Lends the key record of a slot, out of a key table.
+fn lent_record(keys: &mut [KeyRecord], slot: KeySlot) -> &mut KeyRecord
+    requires { 1 < length keys.old }
+    ensures* { sem 𝓛 (LendsRecord keys.entry slot result) }
+{
+    &mut keys[slot.place()]
+}
+
 impl Held {
     // What a new board holds: version 0, no mark, two keys of version 0.
     pub fn fresh(data: [u8; 16], kek: [u8; 16]) -> Held
@@ -79,7 +89,6 @@ impl Held {
         ensures version { self.new.version ≡ self.old.version }
         ensures mark { self.new.unfinished ≡ self.old.unfinished }
     {
-        let lent = &mut self.keys[slot.place()];
-        *lent = record;
+        *lent_record(&mut self.keys, slot) = record;
     }
 }

@@ -9,7 +9,7 @@ mod scrambler;
 mod steps;
 mod supply;
 
-pub use areas::{AREAS, Area, MAP_SIZE, VECTOR_HIGH, VECTOR_LOW, check_range};
+pub use areas::{AREAS, Area, MAP_SIZE, Range, VECTOR_HIGH, VECTOR_LOW, check_range};
 pub use held::{Held, KeyRecord, KeySlot};
 pub use lent::LentImage;
 pub use lent::lending::sized;

@@ -35,8 +35,8 @@ fn erase_area<M: Memory>(memory: &mut M, area: &Area) -> Result<(), Fault>
     requires { all_in_map (erased area.now) ≡ true }
     ensures { Performs (erased area.now) (M.meaning memory.old) (M.meaning memory.new) result }
 {
-    if let Some(first) = area.erase {
-        for address in first..=area.erase_last() {
+    if let Some(range) = &area.erase {
+        for address in range.first..=range.erase_last() {
             memory.store(address, 0xFF)?;
         }
     }

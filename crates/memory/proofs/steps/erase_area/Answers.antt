@@ -1,12 +1,12 @@
-use Rattle.std.proofs.Common.{◌≡◌, ℕ, ◌+◌, Some, None, Option, refl, ap, arith}
-use Rattle.memory.specs.Areas.{erase_last}
-use Rattle.memory.specs.Steps.{blanks_to}
+use Rattle.std.proofs.Common.{◌≡◌, ◌+◌, Some, None, Option, refl, ap, arith}
+use Rattle.memory.specs.declared.areas.Range.{Range}
+use Rattle.memory.specs.Steps.{blanks_of}
 use Rattle.memory.proofs.Exits.{passed_on}
 use Rattle.memory.proofs.Loops.{blanks_end, blanks_more}
 use Rattle.memory.proofs.Turns.{done_end, turn_broke, turn_went, turns_done}
 use Rattle.memory.proofs.steps.erase_area.Goals as goal
 
-nothing : (o : Option ℕ) → ((x : ℕ) → o ≡ Some x → ⊥) → o ≡ None
+nothing : (o : Option Range) → ((x : Range) → o ≡ Some x → ⊥) → o ≡ None
 nothing None h = refl
 nothing (Some x) h = absurd (h x refl)
 
@@ -33,4 +33,4 @@ pub returns-in-Some : goal.returns-in-Some
 returns-in-Some g c = turns_done _ _ _ _ (blanks_end c.loop-address.address c.erase_last-address-end.result (omega arith)) c.loop-address.invariant
 
 pub returns-in_default : goal.returns-in_default
-returns-in_default g c = done_end _ _ _ _ (ap (blanks_to (erase_last c.args.area.now)) (nothing _ c.in_default.not-Some)) refl
+returns-in_default g c = done_end _ _ _ _ (ap blanks_of (nothing _ c.in_default.not-Some)) refl
