@@ -28,7 +28,8 @@ fn replay_input(rt: &HostRuntime, detail: Detail) -> anyhow::Result<()> {
     let image = sized(&mut image).ok_or(Fault::ImageSize)?;
     let board = first_board(image);
     let mut input = BufReader::new(rt.alloc(), rt.stdin())?;
-    replay_listing(rt.alloc(), board, detail, &mut input, &mut rt.stdout())?;
+    let memory = replay_listing(rt.alloc(), board, detail, &mut input, &mut rt.stdout())?;
+    let (_image, _held, _supply) = memory.into_parts();
     Ok(())
 }
 

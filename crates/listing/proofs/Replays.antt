@@ -16,6 +16,10 @@ use Rattle.listing.proofs.Reaching.{calls_none}
 pub none_wait : (C : Cipher) (es : List Event) (r : Reached) → es ≡ [] → with_calls C es r ≡ r
 none_wait C es r none = ap (λ zs. with_calls C zs r) none ∙ calls_none C r
 
+-- so the board is the one that is reached
+pub state_reached : (C : Cipher) (es : List Event) (r : Reached) → es ≡ [] → r.state ≡ (with_calls C es r).state
+state_reached C es r none = ap (λ (s : Reached). s.state) (sym (none_wait C es r none))
+
 -- rows that were written are gone, and nothing else
 pub cleared : (r s : Reached) → s.detail ≡ r.detail → s.state ≡ r.state → s.number ≡ r.number → s.rows ≡ [] → s ≡ without_rows r
 cleared r s d t n none =
@@ -76,21 +80,25 @@ goes_on C n (Some xs) new newer held held-new held-newer line before r s t (ys, 
     read_at : (zs : List ℕ) × (newer ≡ Some zs) × (whole_lines ys ≡ line ∷ whole_lines zs)
     read_at = subst (λ o. LineRead true o newer line) at read
 
--- the end: the rows that wait are written
-pub comes_to_end : (C : Cipher) (n : ℕ) (left new newer held held-new held-newer : Option (List ℕ)) (line : List ℕ) (before r : Reached)
-    → Progress C n left new held held-new before r → LineRead false new newer line → Appends held-new held-newer r.rows
-    → LinesReplayed C true left newer held held-newer before
-comes_to_end C n None new newer held held-new held-newer line before r p read written = tt
-comes_to_end C n (Some xs) new newer held held-new held-newer line before r (ys, at, m) read written =
+-- the end: the rows that wait are written, and the board is the one that is reached
+pub comes_to_end : (C : Cipher) (n : ℕ) (left new newer held held-new held-newer : Option (List ℕ)) (line : List ℕ) (before r : Reached) (s : State)
+    → Progress C n left new held held-new before r → LineRead false new newer line → Appends held-new held-newer r.rows → s ≡ r.state
+    → LinesReplayed C true left newer held held-newer before s
+comes_to_end C n None new newer held held-new held-newer line before r s p read written is = tt
+comes_to_end C n (Some xs) new newer held held-new held-newer line before r s (ys, at, m) read written is =
     let (at2, none) = read_at in
-    let rows = ap (λ (u : Reached). u.rows) (m.comes ∙ ap (λ ls. behind_rows m.written (with_lines C ls r)) none) in
-    (at2, subst (Appends held held-newer) (sym rows) (appends_more held held-new held-newer m.written r.rows m.appended written))
+    let comes = m.comes ∙ ap (λ ls. behind_rows m.written (with_lines C ls r)) none in
+    let rows = ap (λ (u : Reached). u.rows) comes in (
+      at2,
+      subst (Appends held held-newer) (sym rows) (appends_more held held-new held-newer m.written r.rows m.appended written),
+      is ∙ sym (ap (λ (u : Reached). u.state) comes),
+    )
   where
     read_at : (newer ≡ Some []) × (whole_lines ys ≡ [])
     read_at = subst (λ o. LineRead false o newer line) at read
 
 -- as many lines as can be counted
-pub comes_to_limit : (C : Cipher) (n : ℕ) (left new held held-new : Option (List ℕ)) (before r : Reached) → 2 ^ 64 - 1 ≤ n
-    → Progress C n left new held held-new before r → LinesReplayed C false left new held held-new before
-comes_to_limit C n None new held held-new before r many p = tt
-comes_to_limit C n (Some xs) new held held-new before r many (ys, at, m) = omega (arith, m.count)
+pub comes_to_limit : (C : Cipher) (n : ℕ) (left new held held-new : Option (List ℕ)) (before r : Reached) (s : State) → 2 ^ 64 - 1 ≤ n
+    → Progress C n left new held held-new before r → LinesReplayed C false left new held held-new before s
+comes_to_limit C n None new held held-new before r s many p = tt
+comes_to_limit C n (Some xs) new held held-new before r s many (ys, at, m) = omega (arith, m.count)

@@ -52,6 +52,10 @@ beginning d s = record { detail = d; state = s; number = 1; rows = [] }
 abbrev pub listing_rows : Cipher → Detail → State → List ℕ → List ℕ
 listing_rows C d s bytes = (with_lines C (whole_lines bytes) (beginning d s)).rows
 
+-- the board that all lines of a listing's bytes leave
+abbrev pub listing_state : Cipher → Detail → State → List ℕ → State
+listing_state C d s bytes = (with_lines C (whole_lines bytes) (beginning d s)).state
+
 -- after more calls
 abbrev pub with_calls : Cipher → List Event → Reached → Reached
 with_calls C es r =

@@ -2,6 +2,7 @@
 // listing nor its rows have to stand in memory.
 ghost use Rattle.std.specs.Prelude.{◌≡◌, ◌||◌, [], length, nat_le, IfOk, OnOk};
 ghost use Rattle.std.specs.Io.KnownBytes.{Appends};
+ghost use Rattle.board.specs.State.{memory_of};
 ghost use Rattle.listing.specs.Streams.{RowsMoved};
 ghost use Rattle.listing.specs.Listing.{beginning, reached_by, with_line, without_rows};
 
@@ -97,10 +98,18 @@ impl<M: Powered, C: PacketCipher> Bench<M, C> {
     pub(crate) fn print<W: Write>(&mut self, heap: Global, output: &mut W) -> io::Result<()>
         ensures reached { OnOk result (reached_by C.cipher self.new ≡ without_rows (reached_by C.cipher self.old)) }
         ensures written { OnOk result (Appends (W.contents output.old) (W.contents output.new) (reached_by C.cipher self.old).rows) }
+        ensures none { OnOk result (self.new.events.items ≡ []) }
     {
         self.make_calls(heap)?;
         self.write_rows(output)?;
         Ok(())
+    }
+
+    // The memory, taken out of the board. The calls that wait are not made.
+    pub(crate) fn into_memory(self) -> M
+        ensures { M.Memory.meaning result ≡ memory_of self.board }
+    {
+        self.board.into_memory()
     }
 
     // Prints when it is time.
