@@ -27,7 +27,6 @@ full "crates/demo/out/demo @ > /dev/null"
 full "crates/bench/out/bench < crates/bench/stdin > @"
 full "crates/vectors/out/vectors < crates/vectors/stdin > @"
 full "crates/sweep/out/sweep 60479 > @"
-full "crates/sweep/out/sweep 60479 2> @ > /dev/null"
 full "crates/speed/out/speed > @"
 
 # of one line, written at once at the end

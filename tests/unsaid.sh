@@ -1,7 +1,8 @@
 #!/bin/sh
 # What no contract can say, looked for in the text of the sources:
 # - the fields of the structs that a board owns are those of the table in docs/DECISIONS.md; a field more would be memory that nothing speaks of;
-# - in the board the supply is asked for nowhere, and set in one place; and only what powers it up, and runs that do, are bound by the trait for it;
+# - in the board and in the scrambler a supply is passed on and nothing else: it is asked for nowhere and set in one place, and only what powers a
+#   board up, and runs that do, are bound by the trait for it;
 # - no Clone, comparison or Debug is written by hand, and no Drop but that of the guard over the work buffer: nothing says what they give.
 cd "$(dirname "$0")/.."
 work=$(mktemp -d)
@@ -29,33 +30,50 @@ fields() {
 } | sort > "$work/code"
 
 # the table's rows, as: struct field
-sed -n 's/^| `\([A-Za-z]*\)` | `\([a-z_]*\)` | .*|$/\1 \2/p' docs/DECISIONS.md | sort > "$work/table"
+sed -n '/^## What a board holds/,/^That there is/s/^| `\([A-Za-z]*\)` | `\([a-z_]*\)` | .*|$/\1 \2/p' docs/DECISIONS.md | sort > "$work/table"
 
 if [ ! -s "$work/code" ] || ! diff "$work/table" "$work/code"; then
     echo 'tests/unsaid.sh: the fields in the code (>) are not those of docs/DECISIONS.md (<)'
     failed=1
 fi
 
-# only PATTERN LINES: where the board's sources have the pattern, but for use lines, is what is wanted
+# only FOLDER LINES: where the code of a folder names a supply, but for comments, contracts and use lines, is what is wanted, so that a supply is passed
+# on and not looked at, and set no more than once
 only() {
-    found=$(cd crates/board/src && grep -rnE "$1" . | grep -v ':use ' | sed 's/^\.\/\([^:]*\):[0-9]*: */\1: /' | sort)
+    found=$(cd "$1" && grep -rnE '[sS]upply|NoEnd|Steps\(|power_up|PowerUp|Powered' . | grep -vE ':[0-9]+: *(//|ghost |ensures|requires|use )' |
+        sed 's/^\.\/\([^:]*\):[0-9]*: */\1: /' | sort)
     if [ "$found" != "$2" ]; then
-        printf '%s\n' "tests/unsaid.sh: of $1 crates/board/src has" "$found"
+        printf '%s\n' "tests/unsaid.sh: $1 names a supply in" "$found"
         failed=1
     fi
 }
 
-only 'supply\(\)' ''
-only 'set_supply' 'device/power.rt: self.memory.set_supply(supply);'
-only 'Powered' 'calls.rt: impl<M: Powered, C: PacketCipher> Board<M, C> {
+only crates/board/src 'calls.rt: impl<M: Powered, C: PacketCipher> Board<M, C> {
+calls.rt: pub fn power_up(&mut self, supply: Supply)
+calls.rt: self.device.power_up(supply);
 device/power.rt: impl<M: Powered> Device<M> {
-run.rt: impl<M: Powered, C: PacketCipher> Board<M, C> {'
+device/power.rt: pub(crate) fn power_up(&mut self, supply: Supply)
+device/power.rt: self.memory.set_supply(supply);
+fresh.rt: Board::new(LentImage::over(image, Held::fresh(key, kek), Supply::NoEnd))
+run.rt: Event::PowerUp(supply) => {
+run.rt: impl<M: Powered, C: PacketCipher> Board<M, C> {
+run.rt: self.power_up(supply);'
 
-if grep -rnE '^impl.*\b(Clone|Copy|PartialEq|Eq|PartialOrd|Ord|Hash|Debug)(<[^>]*>)? for ' crates/*/src; then
+# and in the scrambler's file alone
+scrambler=$(grep -nE '[sS]upply|NoEnd|Steps\(' crates/memory/src/scrambler.rt | grep -vE '^[0-9]+: *(//|ghost |ensures|requires|use )' | sed 's/^[0-9]*: *//')
+if [ "$scrambler" != 'fn supply(&mut self) -> Supply {
+self.below.supply()
+fn set_supply(&mut self, supply: Supply) {
+self.below.set_supply(supply);' ]; then
+    printf '%s\n' 'tests/unsaid.sh: the scrambler names a supply in' "$scrambler"
+    failed=1
+fi
+
+if grep -rnE '^ *impl.*\b(Clone|Copy|PartialEq|Eq|PartialOrd|Ord|Hash|Debug)(<[^>]*>)? for ' crates/*/src; then
     echo 'tests/unsaid.sh: these are written by hand'
     failed=1
 fi
-if grep -rnE '^impl.*\bDrop for ' crates/*/src | grep -v 'Drop for Guard<'; then
+if grep -rnE '\bDrop for ' crates/*/src | grep -v 'Drop for Guard<'; then
     echo 'tests/unsaid.sh: these are written by hand'
     failed=1
 fi

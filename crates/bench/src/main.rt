@@ -9,7 +9,7 @@ use board::Board;
 use cipher::{Aes128, BlockCipher, Ccm};
 use fault::Fault;
 use listing::{Detail, replay_listing};
-use memory::{LentImage, MAP_SIZE, sized};
+use memory::{LentImage, MAP_SIZE, check_size, sized};
 use std::env;
 use std::io::BufReader;
 use std::process::ExitCode;
@@ -25,6 +25,7 @@ fn first_board(image: &mut [u8; MAP_SIZE]) -> Board<LentImage<'_>, Ccm<Aes128>>
 // Replays the listing on standard input on a fresh board, and prints its rows.
 fn replay_input(rt: &HostRuntime, detail: Detail) -> anyhow::Result<()> {
     let mut image = vec![in rt.alloc(); 0u8; MAP_SIZE]?;
+    check_size(&image)?;
     let image = sized(&mut image).ok_or(Fault::ImageSize)?;
     let board = first_board(image);
     let mut input = BufReader::new(rt.alloc(), rt.stdin())?;

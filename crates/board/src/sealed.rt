@@ -10,7 +10,7 @@ use crate::work::WORK;
 use cipher::PacketCipher;
 use fault::Fault;
 
-// A packet whose length its kind allows. No plain number beside the bytes: the two could be of different packets.
+// A packet whose length its kind allows.
 #[derive(Drop)]
 pub(crate) struct Sealed<const LEAST: usize, const MOST: usize> {
     core: CoreCommand,

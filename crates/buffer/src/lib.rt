@@ -75,12 +75,6 @@ impl<const N: usize> Buffer<N> {
             self.count += 1;
         }
     }
-
-    pub fn clear(&mut self)
-        ensures { self.new ≡ [] }
-    {
-        *self = Buffer::new();
-    }
 }
 
 #[cfg(test)]
@@ -93,8 +87,6 @@ mod tests {
         buffer.push(3);
         buffer.push(4);
         assert!(rt; buffer.as_slice() == &[1, 2, 3][..]);
-        buffer.clear();
-        assert!(rt; buffer.as_slice().is_empty());
         let array = [5, 6, 7];
         assert!(rt; Buffer::front(&array, 2).as_slice() == &[5, 6][..]);
         assert!(rt; Buffer::front(&array, 4).as_slice() == &array[..]);

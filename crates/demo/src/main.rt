@@ -8,7 +8,7 @@ use board::{Answer, Board};
 use cipher::{Aes128, BlockCipher, Ccm};
 use example::{COUNT, Frame, pack_part, push_frame};
 use fault::Fault;
-use memory::{LentImage, MAP_SIZE, Memory, Powered, Supply, sized};
+use memory::{LentImage, MAP_SIZE, Memory, Powered, Supply, check_size, sized};
 use std::alloc::Global;
 use std::env;
 use std::fs::File;
@@ -116,6 +116,7 @@ fn main(rt: HostRuntime) -> anyhow::Result<()> {
         write_frames(&rt, path.as_str(), &frames)?;
     }
     let mut image = vec![in rt.alloc(); 0xFFu8; MAP_SIZE]?;
+    check_size(&image)?;
     let image = sized(&mut image).ok_or(Fault::ImageSize)?;
     let memory: LentImage = story(&rt, Board::fresh(image, KEY, KEK), &frames)?;
     let (_image, _held, _supply) = memory.into_parts();

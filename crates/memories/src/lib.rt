@@ -7,7 +7,7 @@ mod tests {
     use fault::Fault;
     use memory::{
         AREAS, Held, KeyRecord, KeySlot, LentImage, Memory, Powered, Scrambler, Supply,
-        VECTOR_HIGH, VECTOR_LOW, mass_erase, sized, store_data,
+        VECTOR_HIGH, VECTOR_LOW, check_size, mass_erase, sized, store_data,
     };
     use std::process::Abort;
     use std::test::Fail;
@@ -322,6 +322,7 @@ mod tests {
     fn other_sizes_are_refused(rt: HostRuntime) -> Result<(), Fail> {
         for n in [0usize, 61055, 61057] {
             let mut image = vec![in rt.alloc(); 7u8; n]?;
+            answers(&rt, check_size(&image), 4);
             assert!(rt; sized(&mut image).is_none());
             assert!(rt; image.iter().all(|b| *b == 7));
         }

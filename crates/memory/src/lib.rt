@@ -12,7 +12,7 @@ mod supply;
 pub use areas::{AREAS, Area, MAP_SIZE, Range, VECTOR_HIGH, VECTOR_LOW, check_range};
 pub use held::{Held, KeyRecord, KeySlot};
 pub use lent::LentImage;
-pub use lent::lending::sized;
+pub use lent::lending::{check_size, sized};
 pub use memory::{Memory, Powered};
 pub use scrambler::Scrambler;
 pub use steps::{mass_erase, store_data};

@@ -24,7 +24,8 @@ pub struct Scrambler<M: Memory> {
 impl<M: Memory> Scrambler<M> {
     // A scrambler over a memory, whose fixed byte stays the same.
     pub fn over(below: M, fixed: u8) -> Scrambler<M>
-        ensures meaning { clear_meaning result.fixed (M.Memory.meaning result.below) ≡ clear_meaning fixed (M.Memory.meaning below) }
+        ensures below { result.below ≡ below }
+        ensures fixed { result.fixed ≡ fixed }
         ensures whole { scrambler_whole result ≡ result }
     {
         Scrambler { below, fixed }

@@ -26,7 +26,7 @@ fn alone(byte: u8) -> Command
 impl CoreCommand {
     ghost use Rattle.board.specs.Whole.{core_whole};
 
-    // Its bytes, of which there are 1 to 299.
+    // Its bytes, of which there are 1 to 299; it has no other field.
     pub(crate) fn bytes(&self) -> &[u8]
         ensures bytes { result.now ≡ self.now.buffer }
         ensures sized { (0 < length self.now.buffer) × (length self.now.buffer ≤ 299) }

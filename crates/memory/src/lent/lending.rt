@@ -1,6 +1,8 @@
 // Lending an image, and the memory on it.
 ghost use Rattle.std.specs.Prelude.{◌≡◌, length, is_some, IfSome, ◌==◌};
 ghost use Rattle.std.specs.Borrow.{sem, Array, LendsIf, u8};
+ghost use Rattle.fault.specs.Checks.{check};
+ghost use Rattle.fault.specs.declared.Fault.TheVariants.{ImageSize};
 ghost use Rattle.memory.specs.Areas.{map_size};
 ghost use Rattle.memory.specs.Lent.{lent_long, lent_meaning, lent_whole, meaning_of};
 
@@ -16,8 +18,17 @@ const LOW_PLACE: usize = 44670;
 
 const HIGH_PLACE: usize = 44671;
 
-// The image as an array, to be lent whole; none where it is not as long as the map, which is the refusal `Fault::ImageSize`. It is
-// unchanged then.
+// Refuses an image that is not as long as the map, before it is lent.
+pub fn check_size(image: &[u8]) -> Result<(), Fault>
+    ensures { result ≡ check (length image.now == map_size) ImageSize }
+{
+    if image.len() != MAP_SIZE {
+        return Err(Fault::ImageSize);
+    }
+    Ok(())
+}
+
+// The image as an array, to be lent whole; none where `check_size` refuses it. It is unchanged then.
 pub fn sized(image: &mut [u8]) -> Option<&mut [u8; MAP_SIZE]>
     ensures* rests { sem 𝓛 (LendsIf (Array u8 0) (Array u8 0) image.entry result (λ left. left) image.old) }
     ensures size { is_some result ≡ (length image.old == map_size) }

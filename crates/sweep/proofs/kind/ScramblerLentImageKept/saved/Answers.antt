@@ -21,7 +21,10 @@ meant c =
     ap (λ b. clear_meaning 0x5A (lent_meaning b)) c.into_below.ensures ∙ ap (λ f. clear_meaning f (lent_meaning s.below)) (sym (known c)) ∙ c.read.ensures.same
 
 pub returns-clause-stays : goal.returns-clause-stays
-returns-clause-stays c = c.over.ensures ∙ ap (clear_meaning 0x5A) c.in_ok-below.ensures.stays ∙ meant c
+returns-clause-stays c =
+    ap (λ b. clear_meaning c.over.result.fixed (lent_meaning b)) c.over.ensures.below
+    ∙ ap (λ f. clear_meaning f (lent_meaning c.in_ok-below.below)) c.over.ensures.fixed
+    ∙ ap (clear_meaning 0x5A) c.in_ok-below.ensures.stays ∙ meant c
 
 pub returns-clause-saved : goal.returns-clause-saved
 returns-clause-saved c = ap (clear_meaning 0x5A) c.in_ok-below.ensures.saved ∙ meant c
