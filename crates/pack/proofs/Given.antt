@@ -1,5 +1,5 @@
 -- A data packet that was asked for, with its data.
-use Rattle.std.proofs.Common.{◌≡◌, ℕ, List, length, Some, None, Ok, Err, Option, Result, sym, ap, ap₂, ◌∙◌}
+use Rattle.std.proofs.Common.{◌≡◌, ℕ, List, length, Some, None, Ok, Err, Option, Result, ap, ap₂, ◌∙◌}
 use Rattle.std.specs.Option.{ok_or, option_map}
 use Rattle.std.specs.Result.{MatchResult}
 use Rattle.packer.specs.Packing.{packed_data}

@@ -1,5 +1,5 @@
 -- The length of a frame that was packed.
-use Rattle.std.proofs.Common.{◌≡◌, ℕ, ◌+◌, ◌≤◌, ◌&&◌, List, ◌++◌, length, Ok, Err, Result, nat_le, refl, ◌∙◌, arith, length-append}
+use Rattle.std.proofs.Common.{◌≡◌, ℕ, ◌+◌, ◌≤◌, ◌&&◌, List, length, Ok, Err, Result, nat_le, refl, ◌∙◌, arith, length-append}
 use Rattle.cipher.specs.Cipher.{Cipher, iv_checked}
 use Rattle.fault.specs.Checks.{check, then}
 use Rattle.fault.specs.declared.Fault.{Fault}

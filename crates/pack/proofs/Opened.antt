@@ -1,12 +1,12 @@
 -- What a work buffer says of the contents that were opened into it.
-use Rattle.std.proofs.Common.{◌≡◌, ℕ, ◌-◌, Bool, true, false, cond, List, ◌++◌, length, take, drop, replicate, Some, None, Ok, Err, Option, Result, sym, refl, ap, ◌∙◌}
+use Rattle.std.proofs.Common.{◌≡◌, ℕ, ◌-◌, Bool, true, false, cond, List, ◌++◌, length, take, drop, replicate, Some, None, Ok, Option, Result, sym, ap, ◌∙◌}
 use Rattle.std.proofs.lemmas.List.{take_at, take-append-drop}
 use Rattle.std.proofs.Math.Seq.{drop-append_seam, take-append_seam}
 use Rattle.std.specs.Bool.{Decides}
-use Rattle.cipher.specs.Cipher.{Cipher, iv_checked, opening, yielded}
+use Rattle.cipher.specs.Cipher.{opening, yielded}
 use Rattle.fault.specs.Checks.{check, then}
 use Rattle.fault.specs.declared.Fault.{Fault}
-use Rattle.pack.specs.Report.{contents_or_none, reopened}
+use Rattle.pack.specs.Report.{contents_or_none}
 
 -- the contents are at the front of the buffer
 pub reopened_is : (b : Bool) (f : Fault) (o : Option (List ℕ)) (n : ℕ) (work : List ℕ) → Ok n ≡ then (check b f) (opening o) → work ≡ yielded (cond b o None)
