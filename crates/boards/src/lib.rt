@@ -172,8 +172,7 @@ mod tests {
     }
 
     // What the board left: version 1 without the mark, and the two bytes of the vector as they are kept.
-    fn left(rt: &impl Abort, memory: LentImage<'_>, low: u8, high: u8) {
-        let (image, held, supply) = memory.into_parts();
+    fn left(rt: &impl Abort, image: &[u8; 61056], held: Held, supply: Supply, low: u8, high: u8) {
         assert!(rt; image[44670] == low && image[44671] == high);
         assert!(rt; held.version == 1 && !held.unfinished);
         assert!(rt; matches!(supply, Supply::NoEnd));
@@ -187,11 +186,13 @@ mod tests {
     // The calls of a cipher, over a lent image and then over a scrambler.
     fn calls<C: PacketCipher>(rt: &impl Abort, heap: Global, iv: &[u8; 16]) -> Result<(), Fail> {
         let mut image = vec![in heap; 0xFFu8; 61056]?;
-        left(rt, all::<_, C>(rt, lent(&mut image)?, iv)?, 0x00, 0x44);
+        let (kept, held, supply) = all::<_, C>(rt, lent(&mut image)?, iv)?.into_parts();
+        left(rt, kept, held, supply, 0x00, 0x44);
         let mut memory = Scrambler::over(lent(&mut image)?, 0x5A);
         memory.set_vector(0xFF, 0xFF)?;
         let below = all::<_, C>(rt, memory, iv)?.into_below();
-        left(rt, below, 0xA4, 0xE1);
+        let (kept, held, supply) = below.into_parts();
+        left(rt, kept, held, supply, 0xA4, 0xE1);
         Ok(())
     }
 
