@@ -4,7 +4,6 @@ pub mod OneStep
 pub mod StoredBack
 pub mod Through
 pub mod Performs
-pub mod Upward
 pub mod Turns
 pub mod InMap
 pub mod Loops

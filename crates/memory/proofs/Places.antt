@@ -121,6 +121,23 @@ pub map_below : (a : ℕ) → is_some (place a) ≡ true → a < 0x14000
 unfolding all_areas
 map_below a e = below_in all_areas a 0x14000 (omega arith, (omega arith, (omega arith, (omega arith, tt)))) (sym (in_map a) ∙ e)
 
+-- a walk up a range of n addresses, at the k-th one
+module _ (a n k : ℕ) (h : k < n) where
+  one_left : n - k ≡ suc (n - (k + 1))
+  one_left = omega arith
+
+  pub outside_here : is_some (place a) ≡ false → first_outside a (n - k) ≡ Some a
+  unfolding first_outside
+  outside_here e = ap (first_outside a) one_left ∙ cond-false _ _ _ e
+
+  pub outside_on : is_some (place a) ≡ true → first_outside a (n - k) ≡ first_outside (a + 1) (n - (k + 1))
+  unfolding first_outside
+  outside_on e = ap (first_outside a) one_left ∙ cond-true _ _ _ e
+
+pub outside_none : (a n k : ℕ) → n ≤ k → first_outside a (n - k) ≡ None
+unfolding first_outside
+outside_none a n k h = let z : n - k ≡ 0 = omega arith in ap (first_outside a) z
+
 pub range_examples : RangeExamples
 unfolding first_outside place all_areas
 range_examples = (refl, (refl, (refl, (refl, (refl, tt)))))

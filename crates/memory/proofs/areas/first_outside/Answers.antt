@@ -1,16 +1,26 @@
-use Rattle.std.proofs.Common.{sym, rules, ◌∙◌, arith}
-use borrow.Author.Tests.{tests}
-use Rattle.std.proofs.lemmas.Iterator.{YieldsList-from_take}
-use Rattle.std.proofs.lemmas.Iterator.Adapters.{option_map_id}
-use Rattle.std.proofs.lemmas.Iterator.Consumers.{YieldsList-at}
-use Rattle.std.proofs.lemmas.Iterator.Search.{find_from_yields_List}
-use Rattle.memory.proofs.Upward.{find_outside, is_outside, yields_upward}
+use Rattle.std.proofs.Common.{◌≡◌, ◌-◌, ◌<◌, ◌≤◌, true, is_some, sym, ap, ◌∙◌, arith}
+use Rattle.memory.specs.Areas.{first_outside, place}
+use Rattle.memory.proofs.Places.{map_below, outside_here, outside_none, outside_on}
 use Rattle.memory.proofs.areas.first_outside.Goals as goal
+
+pub loop-init : goal.loop-init
+loop-init c = let z : c.args.count - 0 ≡ c.args.count = omega arith in ap (first_outside c.args.address) z
+
+pub returns-then-is_none : goal.returns-then-is_none
+returns-then-is_none c =
+    let h : c.loop.counter < c.args.count = omega arith in
+    sym (outside_here _ _ _ h (sym (ap is_some c.place_of.ensures.value) ∙ c.if-is_none.ensures)) ∙ c.loop.invariant
+
+known : (c : goal.Else-is_none) → is_some (place c.loop.at) ≡ true
+known c = sym (ap is_some c.place_of.ensures.value) ∙ c.if-is_none.ensures
+
+pub overflow_add-at : goal.overflow_add-at
+overflow_add-at c = omega (arith, map_below c.loop.at (known c))
+
+pub loop-preserved : goal.loop-preserved
+loop-preserved c = let h : c.loop.counter < c.args.count = omega arith in sym (outside_on _ _ _ h (known c)) ∙ c.loop.invariant
 
 pub returns : goal.returns
 returns c =
-    let a = c.args.address in
-    let up = yields_upward a 0xFFFFFFFF c.new.ensures.start c.new.ensures.end c.new.ensures.exhausted in
-    let taken = YieldsList-from_take _ (YieldsList-at c.take.ensures.source up) c.take.ensures.count in
-    let found = find_from_yields_List is_outside _ _ c.find.result c.find.ensures.ran taken (λ x b q k. search (rules, tests)) in
-    sym (option_map_id c.find.result) ∙ found ∙ find_outside a c.args.count _ (omega arith) (omega arith)
+    let h : c.args.count ≤ c.loop.counter = omega arith in
+    sym (outside_none c.loop.at _ _ h) ∙ c.loop.invariant
