@@ -1,12 +1,12 @@
 -- Numbers of digits that grow past a limit.
-use Rattle.std.proofs.Common.{◌≡◌, ℕ, zero, suc, ◌+◌, ◌*◌, ◌<◌, ◌-◌, ◌^◌, min, true, nat_eq, nat_lt, List, [], ◌∷◌, length, get_or, take, drop, Some, None, Ok, Err, Option, Result, sym, refl, ap, ◌∙◌, arith}
+use Rattle.std.proofs.Common.{◌≡◌, ℕ, zero, suc, ◌+◌, ◌*◌, ◌<◌, ◌≤◌, ◌-◌, ◌^◌, min, true, nat_eq, nat_lt, List, [], ◌∷◌, length, get_or, take, drop, Some, None, Ok, Err, Option, Result, sym, refl, ap, ◌∙◌, arith}
 use Rattle.std.proofs.lemmas.List.{at_drop_more}
 use Rattle.std.proofs.lemmas.Bool.Decides.{Decides-eqb, nat_tests}
 use Rattle.std.proofs.lemmas.Slice.Eq.{slice_eq-Decides}
 use Rattle.std.specs.Option.{option_map}
 use Rattle.text.specs.Decimal.{at_most, decimal_read, decimal_value}
 use Rattle.std.specs.Cmp.Lexicographic.{pointwise}
-use Rattle.std.specs.Result.{OkIff, result_unwrap_or}
+use Rattle.std.specs.Result.{OkIff, result_ok, result_unwrap_or}
 use Rattle.std.specs.declared.num.TryFromIntError.{TryFromIntError}
 use Rattle.text.specs.Hex.{hex_number_read, hex_value}
 use Rattle.text.specs.Numbers.{and_then, digit_in, number_after, number_of}
@@ -56,16 +56,40 @@ pub digit_16 : (b : ℕ) → digit_in 16 b ≡ hex_value b
 digit_16 b = grind (arith, nat_tests)
 
 -- a number above the limit is above it also once it is cut
-pub limit_cut : (m limit : ℕ) (o : Option ℕ) → limit < m → and_then (option_map (min m) o) (at_most limit) ≡ and_then o (at_most limit)
+limit_cut : (m limit : ℕ) (o : Option ℕ) → limit < m → and_then (option_map (min m) o) (at_most limit) ≡ and_then o (at_most limit)
 limit_cut m limit None h = refl
 limit_cut m limit (Some n) h = grind (arith, nat_tests)
 
--- a number that was read, against a limit
-pub decimal_is : (m limit v : ℕ) (bs : List ℕ) → Some v ≡ option_map (min m) (number_of (digit_in 10) 10 bs) → limit < m
-    → decimal_read limit bs ≡ at_most limit v
-decimal_is m limit v bs e h =
-    ap (λ o. and_then o (at_most limit)) (sym (of_same (digit_in 10) decimal_value 10 bs digit_10))
-    ∙ sym (limit_cut m limit (number_of (digit_in 10) 10 bs) h) ∙ ap (λ o. and_then o (at_most limit)) (sym e)
+-- no cut number is above where it is cut
+pub limit_all : (m : ℕ) (o : Option ℕ) → and_then (option_map (min m) o) (at_most m) ≡ option_map (min m) o
+limit_all m None = refl
+limit_all m (Some n) = grind (arith, nat_tests)
+
+past_then : (m limit : ℕ) (o : Option ℕ) (f : ℕ → Option ℕ) → ((d : ℕ) → and_then (option_map (min m) (f d)) (at_most limit) ≡ None)
+    → and_then (option_map (min m) (and_then o f)) (at_most limit) ≡ None
+past_then m limit None f h = refl
+past_then m limit (Some d) f h = h d
+
+past_step : (limit n base d : ℕ) → 0 < base → limit < n → limit < n * base + d
+past_step limit n zero d h e = absurd (omega arith)
+past_step limit n (suc base) d h e = grind arith
+
+-- a number above the limit stays above it under more digits
+pub past_limit : (digit : ℕ → Option ℕ) (base m limit n : ℕ) (bs : List ℕ) → 0 < base → limit < m → limit < n
+    → and_then (option_map (min m) (number_after digit base n bs)) (at_most limit) ≡ None
+past_limit digit base m limit n [] h k e = grind (arith, nat_tests)
+past_limit digit base m limit n (b ∷ bs) h k e =
+    past_then m limit (digit b) _ (λ d. past_limit digit base m limit (n * base + d) bs h k (past_step limit n base d h e))
+
+-- a number that is not above the limit
+pub within : (m limit n : ℕ) → n ≤ m → n ≤ limit → and_then (Some (min m n)) (at_most limit) ≡ Some n
+within m limit n h k = grind (arith, nat_tests)
+
+-- what is read against a limit below the cut
+pub decimal_is : (m limit : ℕ) (bs : List ℕ) → limit < m
+    → and_then (option_map (min m) (number_of (digit_in 10) 10 bs)) (at_most limit) ≡ decimal_read limit bs
+decimal_is m limit bs h =
+    limit_cut m limit (number_of (digit_in 10) 10 bs) h ∙ ap (λ o. and_then o (at_most limit)) (of_same (digit_in 10) decimal_value 10 bs digit_10)
 
 -- the number behind "0x"
 behind_0x : (bs ds : List ℕ) → take 2 bs ≡ 48 ∷ 120 ∷ [] → ds ≡ drop 2 bs → hex_number_read bs ≡ option_map (min 0xFFFFFFFF) (number_of (digit_in 16) 16 ds)
@@ -90,3 +114,13 @@ hex_number_is bs ds h e o r =
 pub or_most : (r : Result ℕ TryFromIntError) (v : ℕ) → OkIff r (v < 2 ^ 32) v → result_unwrap_or r 0xFFFFFFFF ≡ min 0xFFFFFFFF v
 or_most (Ok n) v h = omega arith
 or_most (Err e) v h = grind arith
+
+-- a number within a limit of 32 bits fits in them
+at_most_within : (limit v : ℕ) (o : Option ℕ) → Some v ≡ and_then o (at_most limit) → v ≤ limit
+at_most_within limit v None e = cc
+at_most_within limit v (Some n) e = grind (arith, nat_tests)
+
+pub fits_32 : (limit v : ℕ) (o : Option ℕ) (r : Result ℕ TryFromIntError) → limit < 2 ^ 32 → Some v ≡ and_then o (at_most limit) → OkIff r (v < 2 ^ 32) v
+    → result_ok r ≡ Some v
+fits_32 limit v o (Ok n) h e f = ap (λ k. Some k) (omega arith)
+fits_32 limit v o (Err f) h e g = let w = at_most_within limit v o e in grind arith

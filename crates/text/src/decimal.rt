@@ -8,6 +8,6 @@ use crate::number::number;
 pub fn decimal(text: &[u8], max: u32) -> Option<u32>
     ensures { result ≡ decimal_read max text.now }
 {
-    let value = u32::try_from(number(text, 10)?).ok()?;
-    Some(value).filter(|value| *value <= max)
+    let value = number(text, 10, u64::from(max))?;
+    u32::try_from(value).ok()
 }

@@ -42,8 +42,16 @@ pub fn hex_bytes(heap: Global, text: &[u8]) -> Result<Option<Vec<u8>>, AllocErro
     if text.len() % 2 != 0 {
         return Ok(None);
     }
-    let mut bytes = vec![in heap; 0; text.len() / 2]?;
-    Ok(read_bytes(text, &mut bytes).map(|()| bytes))
+    let (pairs, _) = text.as_chunks::<2>();
+    // Room for the data of one packet, and more as bytes come: a long text that says no bytes takes no memory for them.
+    let mut bytes = Vec::with_capacity(heap, pairs.len().min(256))?;
+    for [high, low] in pairs {
+        match hex_byte(*high, *low) {
+            Some(byte) => bytes.push(byte)?,
+            None => return Ok(None),
+        }
+    }
+    Ok(Some(bytes))
 }
 
 // The sixteen bytes of 32 digits; none for another text.
@@ -63,6 +71,6 @@ pub fn hex_number(text: &[u8]) -> Option<u32>
     ensures { result ≡ hex_number_read text.now }
 {
     let digits = text.strip_prefix(b"0x")?;
-    let value = number(digits, 16)?;
+    let value = number(digits, 16, u64::MAX)?;
     Some(u32::try_from(value).unwrap_or(u32::MAX))
 }
