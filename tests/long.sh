@@ -1,6 +1,6 @@
 #!/bin/sh
-# Inputs of more than 100,000 lines, which bench and vectors must answer as the second implementation does, and streams that fail, at which they
-# must not end with status 0. It needs crates/bench/out/bench, crates/vectors/out/vectors and target/peer/release/peer.
+# Inputs of more than 100,000 lines, which bench and vectors must answer as the second implementation does, streams that fail, at which they must
+# not end with status 0, and words that are not UTF-8. It needs the programs bench, demo and vectors in crates/*/out, and target/peer/release/peer.
 cd "$(dirname "$0")/.."
 bench=crates/bench/out/bench
 vectors=crates/vectors/out/vectors
@@ -35,6 +35,22 @@ repeated crates/bench/stdin 2 > "$work/listing"
 repeated crates/vectors/stdin 24 > "$work/cases"
 same "$work/listing" "$bench" bench
 same "$work/cases" "$vectors" answers
+
+# a program's name and a word that are not UTF-8 are passed over
+odd=$(printf '\377')
+cp "$bench" "$work/$odd"
+same crates/bench/stdin "$work/$odd" bench
+"$bench" "$odd" < crates/bench/stdin | cmp - crates/bench/stdout || {
+    echo "tests/long.sh: $bench does not pass over a word that is not UTF-8"
+    failed=1
+}
+cp crates/demo/out/demo "$work/$odd"
+for demo in "$work/$odd" "crates/demo/out/demo $odd"; do
+    $demo | cmp - crates/demo/stdout || {
+        echo "tests/long.sh: demo ends otherwise under a name, or with a word, that is not UTF-8"
+        failed=1
+    }
+done
 
 # a device that takes nothing, a folder, which cannot be read, and a line that is no text in the middle of others
 { cat crates/vectors/stdin; printf '\377\n'; cat crates/vectors/stdin; } > "$work/no_text"

@@ -11,7 +11,7 @@ use fault::Fault;
 use listing::{Detail, replay_listing};
 use memory::{LentImage, MAP_SIZE, check_size, sized};
 use std::env;
-use std::io::BufReader;
+use std::io::{BufReader, ErrorKind};
 use std::process::ExitCode;
 
 // The board that a listing begins on: a fresh one, with the image all 0xFF and keys of zeros.
@@ -45,8 +45,17 @@ fn detail_of(words: &[String]) -> Option<Detail>
     }
 }
 
+// The program's name and the words behind it; nothing where one of them is not UTF-8.
+fn words(rt: &HostRuntime) -> anyhow::Result<Vec<String>> {
+    match env::args(rt) {
+        Ok(words) => Ok(words.collect(rt.alloc())?),
+        Err(error) if matches!(error.kind(), ErrorKind::InvalidData) => Ok(Vec::new(rt.alloc())),
+        Err(error) => Err(error.into()),
+    }
+}
+
 fn main(rt: HostRuntime) -> anyhow::Result<ExitCode> {
-    let words: Vec<String> = env::args(&rt)?.collect(rt.alloc())?;
+    let words = words(&rt)?;
     let Some(detail) = detail_of(words.get(1..).unwrap_or(&[])) else {
         eprintln!(rt; "usage: bench [--places] < LISTING")?;
         return Ok(ExitCode::FAILURE);

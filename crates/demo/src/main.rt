@@ -12,7 +12,7 @@ use memory::{LentImage, MAP_SIZE, Memory, Powered, Supply, check_size, sized};
 use std::alloc::Global;
 use std::env;
 use std::fs::File;
-use std::io::Write;
+use std::io::{ErrorKind, Write};
 
 const KEY: [u8; 16] = [7; 16];
 
@@ -105,6 +105,15 @@ fn write_frames(rt: &HostRuntime, path: &str, frames: &[Frame]) -> anyhow::Resul
     Ok(())
 }
 
+// The file that the first word names, if there is one; none where a word, or the program's name, is not UTF-8.
+fn named_file(rt: &HostRuntime) -> anyhow::Result<Option<String>> {
+    match env::args(rt) {
+        Ok(mut words) => Ok(words.nth(1)),
+        Err(error) if matches!(error.kind(), ErrorKind::InvalidData) => Ok(None),
+        Err(error) => Err(error.into()),
+    }
+}
+
 fn main(rt: HostRuntime) -> anyhow::Result<()> {
     let frames = update(rt.alloc(), &KEY)?;
     let count = frames.iter().fold(
@@ -112,7 +121,7 @@ fn main(rt: HostRuntime) -> anyhow::Result<()> {
         |sum, frame| sum.saturating_add(frame.as_slice().len()),
     );
     println!(rt; "Version 1 of an update is packed: {COUNT} packets, {count} bytes of frames.")?;
-    if let Some(path) = env::args(&rt)?.nth(1) {
+    if let Some(path) = named_file(&rt)? {
         write_frames(&rt, path.as_str(), &frames)?;
     }
     let mut image = vec![in rt.alloc(); 0xFFu8; MAP_SIZE]?;

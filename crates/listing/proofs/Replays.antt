@@ -1,7 +1,8 @@
 -- Lines taken one by one, and their rows written now and then.
-use Rattle.std.proofs.Common.{◌≡◌, ℕ, ◌+◌, ◌-◌, ◌^◌, ◌≤◌, true, false, List, [], ◌∷◌, ◌++◌, None, Some, Option, IfSome, length, refl, sym, ap, ap₂, subst, ◌∙◌, arith}
+use Rattle.std.proofs.Common.{◌≡◌, ℕ, ◌+◌, ◌-◌, ◌^◌, ◌≤◌, true, false, List, [], ◌∷◌, ◌++◌, None, Some, Option, Ok, Err, Result, IfOk, IfSome, length, refl, sym, ap, ap₂, subst, ◌∙◌, arith}
 use Rattle.std.proofs.lemmas.List.{append_assoc}
 use Rattle.std.specs.Io.KnownBytes.{Appends}
+use Rattle.std.specs.Result.{MatchResult}
 use Rattle.cipher.specs.Cipher.{Cipher}
 use Rattle.rules.specs.declared.Event.{Event}
 use Rattle.rules.specs.Board.{State}
@@ -11,6 +12,11 @@ use Rattle.listing.specs.Listing.{Reached, behind_rows, with_calls, with_line, w
 use Rattle.text.proofs.Writers.{append_none, appends_more}
 use Rattle.listing.specs.Streams.{LineRead, LinesReplayed, RowsMoved}
 use Rattle.listing.proofs.Reaching.{calls_none}
+
+-- a call that is told to have succeeded did
+pub succeeded : {E : Type 0} (P : Unit {0} → Type 0) (Q : Type 0) (r : Result (Unit {0}) E) → MatchResult r P (λ e. ⊥) → IfOk r (λ _. Q) → Q
+succeeded P Q (Ok u) h p = p
+succeeded P Q (Err e) h p = absurd h
 
 -- no call waits
 pub none_wait : (C : Cipher) (es : List Event) (r : Reached) → es ≡ [] → with_calls C es r ≡ r

@@ -7,7 +7,7 @@ ghost use Rattle.listing.specs.Listing.{listing_rows, listing_state, reached_by}
 ghost use Rattle.listing.specs.Streams.{LineRead, LinesReplayed};
 
 use crate::rows::Detail;
-use crate::waiting::Bench;
+use crate::waiting::{Bench, no_memory};
 use board::Board;
 use cipher::PacketCipher;
 use memory::Powered;
@@ -50,7 +50,7 @@ fn replay_lines<M: Powered, C: PacketCipher, R: BufRead, W: Write>(
             bench.print(heap, output)?;
             return Ok(true);
         }
-        bench.line(heap, &line)?;
+        bench.line(heap, &line).map_err(no_memory)?;
         bench.print_if_full(heap, output)?;
     }
     Ok(false)

@@ -2,6 +2,8 @@
 // listing nor its rows have to stand in memory.
 ghost use Rattle.std.specs.Prelude.{◌≡◌, ◌||◌, [], length, nat_le, IfOk, OnOk};
 ghost use Rattle.std.specs.Io.KnownBytes.{Appends};
+ghost use Rattle.std.specs.IoError.{error_kind};
+ghost use Rattle.std.specs.declared.io.ErrorKind.TheVariants.{OutOfMemory};
 ghost use Rattle.board.specs.State.{memory_of};
 ghost use Rattle.listing.specs.Streams.{RowsMoved};
 ghost use Rattle.listing.specs.Listing.{beginning, reached_by, with_line, without_rows};
@@ -15,6 +17,13 @@ use memory::Powered;
 use rules::Event;
 use std::alloc::{AllocError, Global};
 use std::io::{self, Write};
+
+// The error of calls or rows that there is no memory for.
+pub(crate) fn no_memory(_error: AllocError) -> io::Error
+    ensures { error_kind result ≡ OutOfMemory }
+{
+    io::Error::new(io::ErrorKind::OutOfMemory, "memory allocation failed")
+}
 
 // A board, what rows show of refusals, the calls that wait, the number of the first of them, and rows that are not yet printed.
 #[derive(Drop)]
@@ -100,7 +109,7 @@ impl<M: Powered, C: PacketCipher> Bench<M, C> {
         ensures written { OnOk result (Appends (W.contents output.old) (W.contents output.new) (reached_by C.cipher self.old).rows) }
         ensures none { OnOk result (self.new.events.items ≡ []) }
     {
-        self.make_calls(heap)?;
+        self.make_calls(heap).map_err(no_memory)?;
         self.write_rows(output)?;
         Ok(())
     }

@@ -1,7 +1,7 @@
 use Rattle.std.proofs.Common.{ap, subst, ◌∙◌}
 use Rattle.listing.specs.Listing.{Reached, reached_by, with_line}
 use Rattle.listing.specs.Streams.{LineRead}
-use Rattle.listing.proofs.Replays.{comes_to_end, goes_on, state_reached}
+use Rattle.listing.proofs.Replays.{comes_to_end, goes_on, state_reached, succeeded}
 use Rattle.listing.proofs.stream.replay_lines.Goals as goal
 
 pub loop-preserved : goal.loop-preserved
@@ -14,7 +14,7 @@ loop-preserved g c =
     c.next_line.new.line.items (reached_by C c.args.bench.now) (reached_by C old) (reached_by C c.line.new.self) (reached_by C c.print_if_full.new.self)
     c.loop.invariant
     (subst (λ b. LineRead b (left c.loop.input) (left c.next_line.new.input) c.next_line.new.line.items) c.if-not-branch.false c.in_ok-next_line.ensures)
-    (c.in_ok-line.ensures ∙ ap (λ bs. with_line C bs (reached_by C old)) c.deref.ensures.value)
+    (succeeded _ _ c.line.result c.in_ok-map_err.ensures.cases c.line.ensures ∙ ap (λ bs. with_line C bs (reached_by C old)) c.deref.ensures.value)
     c.in_ok-print_if_full.ensures
 
 -- the board that is left is the one that is reached, since no call waits
