@@ -113,6 +113,12 @@ expect 'Packed data packet 300 of 311 of version 7: 8 bytes for 0x04400, sealed 
 00 72 5F 86 9A 99 E4 0A 7D 32 FB 67 D8 52 E2 15
 04 59 85 39 7E 1F 38 DC
 The frame opened again to the same contents.' 0 data ccm $key $ccm 7 300 311 0x4400 726F617374203700
+expect 'Packed data packet 1 of 1 of version 7: 8 bytes for 0x04400, sealed with AES-128 CCM, in a frame of 56 bytes:
+80 33 00 30 01 00 00 00 00 00 00 00 00 00 00 00
+00 01 00 00 BA 66 6F 41 2F 77 51 50 CF EE 04 10
+00 72 5F 86 9A 99 73 02 89 0F 45 95 AA 6A F2 CF
+5A D8 9E 64 21 8A D1 71
+The frame opened again to the same contents.' 0 data ccm $key $ccm 7 1 1 0x4400 726F617374203700
 
 # one of 256 bytes, each of another value, as the second implementation packs it
 most=$(i=0; while [ $i -lt 256 ]; do printf '%02X' $i; i=$((i + 1)); done)

@@ -1,5 +1,5 @@
 -- A data packet that was asked for, with its data.
-use Rattle.std.proofs.Common.{◌≡◌, ℕ, List, length, Some, None, Ok, Err, Option, Result, ap, ap₂, ◌∙◌}
+use Rattle.std.proofs.Common.{◌≡◌, ℕ, List, length, Some, None, Ok, Err, Option, Result, is_ok, false, refl, ap, ap₂, ◌∙◌}
 use Rattle.std.specs.Option.{ok_or, option_map}
 use Rattle.std.specs.Result.{MatchResult}
 use Rattle.packer.specs.Packing.{packed_data}
@@ -26,3 +26,8 @@ given f asked o a x failure n frame ea eo en ef =
     ap (λ (k : ℕ). Ok (record { packet = Data a k; frame = frame })) en
     ∙ ap (reported (Data a (length (f x)))) ef
     ∙ ap₂ data_given (asked_is asked a ea) (data_is f o x failure eo)
+
+-- where an argument is malformed, the data are not looked at
+pub not_asked : (asked : Result DataArguments Argument) (o p : Option (List ℕ)) → is_ok asked ≡ false → data_given asked o ≡ data_given asked p
+not_asked (Ok a) o p h = cc
+not_asked (Err e) o p h = refl

@@ -1,43 +1,17 @@
 // The frame of a packet, which was opened again before it is given out.
-ghost use Rattle.std.specs.Prelude.{◌≡◌, ◌↔◌, ◌++◌, IsTrue, length, IfOk, Ok};
+ghost use Rattle.std.specs.Prelude.{◌≡◌, length, IfOk};
 ghost use Rattle.packer.specs.Packets.{data_contents, key_contents};
 ghost use Rattle.packer.specs.Packing.{packed_data, packed_key, OpensTo};
-ghost use Rattle.pack.specs.Report.{cipher_of, data_packet, framed, key_packet, reopened};
+ghost use Rattle.pack.specs.Report.{cipher_of, data_packet, framed, key_packet};
 
 use crate::arguments::{DataArguments, KeyArguments, Mode};
 use crate::failure::Failure;
-use buffer::Buffer;
+use crate::reopened::{FRAME_MAX, Frame, OpenedFrame, check_opens};
 use cipher::{Aes128, BlockCipher, Ccm, Gcm, PacketCipher};
 use packer::{DataPacket, KeyPacket, pack_data, pack_key};
 
-// The longest frame of a packet.
-pub const FRAME_MAX: usize = 304;
-
-// A frame; contracts see its bytes.
-pub type Frame = Buffer<FRAME_MAX>;
-
-// Whether a body opens to contents that are these two, one behind the other.
-fn opens_to<C: PacketCipher>(
-    key: &[u8; 16],
-    iv: &[u8; 16],
-    body: &[u8],
-    head: &[u8],
-    rest: &[u8],
-) -> bool
-    ensures { IsTrue result ↔ (reopened C.PacketCipher.cipher key.now iv.now body.now ≡ Ok (head.now ++ rest.now)) }
-{
-    let mut work = [0; 266];
-    let Ok(count) = C::open(key, iv, body, &mut work) else {
-        return false;
-    };
-    match work[..count].strip_prefix(head) {
-        Some(tail) => tail == rest,
-        None => false,
-    }
-}
-
 // The frame of the data packet that the arguments ask for.
-fn data_frame<C: PacketCipher>(a: &DataArguments, bytes: &[u8]) -> Result<Frame, Failure>
+fn data_frame<C: PacketCipher>(a: &DataArguments, bytes: &[u8]) -> Result<OpenedFrame, Failure>
     ensures frame { result ≡ framed (packed_data C.PacketCipher.cipher a.now.key a.now.iv (data_packet a.now bytes.now) 304) }
     ensures opens { IfOk result (λ frame. OpensTo C.PacketCipher.cipher a.now.key a.now.iv (data_contents (data_packet a.now bytes.now)) frame (length frame)) }
 {
@@ -50,14 +24,12 @@ fn data_frame<C: PacketCipher>(a: &DataArguments, bytes: &[u8]) -> Result<Frame,
     };
     let mut out = [0; FRAME_MAX];
     let length = pack_data::<C>(&a.key, &a.iv, &packet, &mut out)?;
-    if !opens_to::<C>(&a.key, &a.iv, &out[20..length - 2], &packet.header(), bytes) {
-        return Err(Failure::NotOpened);
-    }
-    Ok(Frame::front(&out, length))
+    let opened = check_opens::<C>(&a.key, &a.iv, &out[20..length - 2], &packet.header(), bytes)?;
+    Ok(OpenedFrame::of(opened, Frame::front(&out, length)))
 }
 
 // The frame of the key packet that the arguments ask for.
-fn key_frame<C: PacketCipher>(a: &KeyArguments) -> Result<Frame, Failure>
+fn key_frame<C: PacketCipher>(a: &KeyArguments) -> Result<OpenedFrame, Failure>
     ensures frame { result ≡ framed (packed_key C.PacketCipher.cipher a.now.kek a.now.iv (key_packet a.now) 304) }
     ensures opens { IfOk result (λ frame. OpensTo C.PacketCipher.cipher a.now.kek a.now.iv (key_contents (key_packet a.now)) frame (length frame)) }
 {
@@ -68,15 +40,13 @@ fn key_frame<C: PacketCipher>(a: &KeyArguments) -> Result<Frame, Failure>
     };
     let mut out = [0; FRAME_MAX];
     let length = pack_key::<C>(&a.kek, &a.iv, &packet, &mut out)?;
-    if !opens_to::<C>(&a.kek, &a.iv, &out[20..length - 2], &packet.contents(), &[]) {
-        return Err(Failure::NotOpened);
-    }
-    Ok(Frame::front(&out, length))
+    let opened = check_opens::<C>(&a.kek, &a.iv, &out[20..length - 2], &packet.contents(), &[])?;
+    Ok(OpenedFrame::of(opened, Frame::front(&out, length)))
 }
 
 // The frame of a data packet, sealed in the mode that the arguments name. A word chooses the type of the packet cipher: as a closure or a `dyn`
 // it would be no plainer.
-pub fn frame_of_data(a: &DataArguments, bytes: &[u8]) -> Result<Frame, Failure>
+pub fn frame_of_data(a: &DataArguments, bytes: &[u8]) -> Result<OpenedFrame, Failure>
     ensures frame { result ≡ framed (packed_data (cipher_of a.now.mode) a.now.key a.now.iv (data_packet a.now bytes.now) 304) }
     ensures opens { IfOk result (λ frame. OpensTo (cipher_of a.now.mode) a.now.key a.now.iv (data_contents (data_packet a.now bytes.now)) frame (length frame)) }
 {
@@ -87,7 +57,7 @@ pub fn frame_of_data(a: &DataArguments, bytes: &[u8]) -> Result<Frame, Failure>
 }
 
 // The same for key packets.
-pub fn frame_of_key(a: &KeyArguments) -> Result<Frame, Failure>
+pub fn frame_of_key(a: &KeyArguments) -> Result<OpenedFrame, Failure>
     ensures frame { result ≡ framed (packed_key (cipher_of a.now.mode) a.now.kek a.now.iv (key_packet a.now) 304) }
     ensures opens { IfOk result (λ frame. OpensTo (cipher_of a.now.mode) a.now.kek a.now.iv (key_contents (key_packet a.now)) frame (length frame)) }
 {

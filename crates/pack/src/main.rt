@@ -1,15 +1,17 @@
 // pack: seals one packet into its frame, opens the frame again, and prints it.
 #![tactic(auto)]
 
-ghost use Rattle.std.specs.Prelude.{◌≡◌};
+ghost use Rattle.std.specs.Prelude.{◌≡◌, false, is_ok};
 ghost use Rattle.pack.specs.Showing.{key_name};
 
 mod arguments;
 mod failure;
 mod frames;
+mod reopened;
 mod report;
 mod usage;
 
+use anyhow::anyhow;
 use failure::Failure;
 use report::{Packet, Report, report_of};
 use std::env;
@@ -49,34 +51,30 @@ fn show(rt: &HostRuntime, report: &Report) -> anyhow::Result<()> {
     Ok(())
 }
 
-// Says why there is no frame: what is malformed on standard error, else on standard output.
-fn tell(rt: &HostRuntime, failure: Failure) -> anyhow::Result<()> {
+// Says why there is no frame: what is malformed on standard error, else on standard output. Ends in an error.
+fn tell(rt: &HostRuntime, failure: Failure) -> anyhow::Result<()>
+    ensures { is_ok result ≡ false }
+{
     match failure {
         Failure::Malformed(_, _) => eprintln!(rt; "{failure}")?,
         Failure::Refused(_) | Failure::NotOpened => println!(rt; "{failure}")?,
     }
-    Ok(())
+    Err(anyhow!("no frame"))
 }
 
-// Says what the words come to; the exit status tells whether there is a frame.
-fn run(rt: &HostRuntime) -> anyhow::Result<ExitCode> {
+// Says what the words come to; an error where there is no frame.
+fn run(rt: &HostRuntime) -> anyhow::Result<()> {
     let words: Vec<String> = env::args(rt)?.collect(rt.alloc())?;
     match report_of(rt.alloc(), &words)? {
-        Ok(report) => {
-            show(rt, &report)?;
-            Ok(ExitCode::SUCCESS)
-        }
-        Err(failure) => {
-            tell(rt, failure)?;
-            Ok(ExitCode::FAILURE)
-        }
+        Ok(report) => show(rt, &report),
+        Err(failure) => tell(rt, failure),
     }
 }
 
-// Without memory, or where nothing can be written, the status alone tells of it.
+// Why there is no frame has been told. Without memory, or where nothing can be written, the status alone tells of it.
 fn main(rt: HostRuntime) -> ExitCode {
     match run(&rt) {
-        Ok(code) => code,
+        Ok(()) => ExitCode::SUCCESS,
         Err(_) => ExitCode::FAILURE,
     }
 }

@@ -5,7 +5,8 @@ ghost use Rattle.pack.specs.Report.{data_given, data_words, key_given, key_words
 
 use crate::arguments::{DataArguments, KeyArguments, data_arguments, key_arguments};
 use crate::failure::Failure;
-use crate::frames::{Frame, frame_of_data, frame_of_key};
+use crate::frames::{frame_of_data, frame_of_key};
+use crate::reopened::OpenedFrame;
 use crate::usage::{Argument, Form};
 use std::alloc::{AllocError, Global};
 use text::hex::hex_bytes;
@@ -21,7 +22,7 @@ pub enum Packet {
 #[derive(Clone, Copy)]
 pub struct Report {
     pub packet: Packet,
-    pub frame: Frame,
+    pub frame: OpenedFrame,
 }
 
 // What a data packet comes to, for its arguments and its data, as far as they are well formed.
@@ -60,8 +61,12 @@ fn data_report(heap: Global, words: &[String]) -> Result<Result<Report, Failure>
     let [cipher, key, iv, ver, pn, np, address, data] = words else {
         return Ok(Err(Failure::Malformed(Form::Data, Argument::Count)));
     };
+    let asked = data_arguments(cipher, key, iv, ver, pn, np, address);
+    if asked.is_err() {
+        return Ok(data_given(asked, None));
+    }
     let bytes = hex_bytes(heap, data.as_bytes())?;
-    Ok(data_given(data_arguments(cipher, key, iv, ver, pn, np, address), bytes))
+    Ok(data_given(asked, bytes))
 }
 
 // What the words behind `key` come to.

@@ -10,7 +10,7 @@ pub returns-clause-frame : goal.returns-clause-frame
 returns-clause-frame g c =
     let n = c.in_ok-length.length in
     let e = c.in_ok-length.ensures in
-    sym (ap framed (packed_front _ n _ c.pack_data.new.out c.front.result e.answer e.out (c.front.ensures ∙ front_whole 304 n c.pack_data.new.out (omega arith))))
+    sym (ap framed (packed_front _ n _ c.pack_data.new.out c.of.result e.answer e.out (c.of.ensures ∙ c.front.ensures ∙ front_whole 304 n c.pack_data.new.out (omega arith))))
 
 pub returns-clause-opens : goal.returns-clause-opens
 returns-clause-opens g c =
@@ -18,5 +18,5 @@ returns-clause-opens g c =
     let a = c.args.a.now in
     let out = c.pack_data.new.out in
     let e = c.in_ok-length.ensures in
-    let front = c.front.ensures ∙ front_whole 304 n out (omega arith) in
-    front_opens g.C.PacketCipher.cipher a.key a.iv (data_contents (data_packet a c.args.bytes.now)) out c.front.result n _ e.answer (packed_front _ n _ out c.front.result e.answer e.out front) (data_length g.C.PacketCipher.cipher a.key a.iv (search rules) n (data_packet a c.args.bytes.now) e.answer) front e.back
+    let front = c.of.ensures ∙ c.front.ensures ∙ front_whole 304 n out (omega arith) in
+    front_opens g.C.PacketCipher.cipher a.key a.iv (data_contents (data_packet a c.args.bytes.now)) out c.of.result n _ e.answer (packed_front _ n _ out c.of.result e.answer e.out front) (data_length g.C.PacketCipher.cipher a.key a.iv (search rules) n (data_packet a c.args.bytes.now) e.answer) front e.back

@@ -3,7 +3,7 @@ use Rattle.std.proofs.lemmas.Bool.Decides.{Decides-eqb}
 use Rattle.std.proofs.lemmas.Slice.Eq.{slice_eq-Decides}
 use Rattle.fault.specs.declared.Fault.TheVariants.{BadIv}
 use Rattle.pack.proofs.Opened.{other_front, reopened_is, two_parts}
-use Rattle.pack.proofs.frames.opens_to.Goals as goal
+use Rattle.pack.proofs.reopened.opens_to.Goals as goal
 
 pub returns-in-Some : goal.returns-in-Some
 returns-in-Some g c =
