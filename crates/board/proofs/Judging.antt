@@ -16,6 +16,15 @@ use Rattle.board.specs.Keys.{steps_of}
 use Rattle.board.specs.Opening.{opened_by}
 use Rattle.board.specs.Outcomes.{Working, lit, works}
 
+-- judging a data packet looks at the session and the held record alone, judging a key packet at the held record
+by_fields : (s : State) (p : Packet) → judge_fields s p ≡ judge_by s.session s.contents.held p
+unfolding judge_fields
+by_fields s p = refl
+
+by_key_fields : (s : State) (p : KeyPacket) → judge_key_fields s p ≡ judge_key_by s.contents.held p
+unfolding judge_key_fields
+by_key_fields s p = refl
+
 -- opening that failed, and opening that passed, with what follows
 module _ {A : Type 0} (f : List ℕ → A) (j : A → Result A Fault) where
   failed : (v : Result (Unit {0}) Fault) (o : Option (List ℕ)) (d : Fault) → Err d ≡ then v (on_opened (λ c. Ok (f c)) o) → then v (on_opened (λ c. j (f c)) o) ≡ Err d

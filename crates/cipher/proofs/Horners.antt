@@ -44,6 +44,10 @@ unfolding v_after
 v_after_halved a zero = refl
 v_after_halved a (suc i) = ap times_x (v_after_halved a i)
 
+added_is : (t : Bool) (z v : ℕ) → added t z v ≡ bit_xor z (added t 0 v)
+added_is true z v = ap (bit_xor z) (sym (xor_zero_l v))
+added_is false z v = sym (xor_zero_r z)
+
 v_after_added : (t : Bool) (z v i : ℕ) → v_after (added t z v) i ≡ added t (v_after z i) (v_after v i)
 v_after_added true z v i = v_after_xor z v i
 v_after_added false z v i = refl

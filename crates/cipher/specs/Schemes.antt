@@ -75,6 +75,9 @@ module _ (s : ℕ → ℕ) (tag : List ℕ → List ℕ) where
       rw (l, d, f, same_self (tag c))
 
   -- what opening says, by its tests
+  pub opened_unsized : (b : List ℕ) → body_sized b ≡ false → opened s tag b ≡ None
+  opened_unsized b h = rw h
+
   pub opened_by : (b : List ℕ) (t : Bool) → body_sized b ≡ true → same (tag (contents s b)) (drop (length b - 16) b) ≡ t
       → opened s tag b ≡ cond t (Some (contents s b)) None
   opened_by b t h e = rw (h, e)

@@ -14,7 +14,7 @@ use Rattle.rules.specs.declared.Command.TheVariants.{Version as tell_version, Un
 use Rattle.rules.specs.Receiver.{read, Read}
 use Rattle.rules.specs.Receiver.Read.{waits, bad, good}
 use Rattle.wire.specs.Frame.{frame}
-use Rattle.rules.specs.Commands.{message}
+use Rattle.rules.specs.Commands.{message, version_answer}
 use Rattle.wire.specs.Checksum.{crc, crc_from, crc_bits, crc_byte}
 use Rattle.rules.specs.Commands.{command, longer}
 use Rattle.rules.specs.Words.{Begins}
@@ -27,6 +27,10 @@ taken_message = refl
 pub refused_message : message 5 ≡ 0 ∷ 0x80 ∷ 2 ∷ 0 ∷ 0x3B ∷ 5 ∷ 0xC5 ∷ 0x94 ∷ []
 unfolding frame crc crc_from crc_byte crc_bits
 refused_message = refl
+
+pub version_is : version_answer ≡ 0 ∷ 128 ∷ 5 ∷ 0 ∷ 58 ∷ 0 ∷ 88 ∷ 86 ∷ 181 ∷ 68 ∷ 255 ∷ []
+unfolding frame crc crc_from crc_byte crc_bits
+version_is = refl
 
 abbrev yes_bytes : List ℕ
 yes_bytes = 0 ∷ 0x80 ∷ 2 ∷ 0 ∷ 0x3B ∷ 0 ∷ 0x60 ∷ 0xC4 ∷ []

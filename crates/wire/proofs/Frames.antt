@@ -1,7 +1,7 @@
 -- Frames and buffers, for whoever calls the frame writer.
 use Rattle.std.proofs.Common.{◌≡◌, ℕ, suc, ◌+◌, ◌-◌, ◌/◌, ◌%◌, ◌≤◌, true, ◌&&◌, leb, List, [], ◌∷◌, ◌++◌, length, take, drop, set, ap, ◌∙◌, arith}
 use borrow.Rule.Slice.PartMut.{put_mid}
-use Rattle.std.proofs.lemmas.List.{append-nil, drop_all, length-append, take_all}
+use Rattle.std.proofs.lemmas.List.{append-nil, drop_all, length-append, length-drop, take_all}
 use Rattle.std.proofs.lemmas.Bool.{and_parts, leb-true}
 use Rattle.wire.specs.Checksum.{crc}
 use Rattle.wire.specs.Frame.{frame, over, room}
@@ -12,6 +12,10 @@ unfolding frame
 length_frame core =
     let e = length-append core ((crc core % 0x100) ∷ (crc core / 0x100) ∷ []) in
     ap (λ n. suc (suc (suc n))) e ∙ omega arith
+
+-- a buffer keeps its length
+pub length_over : (bs xs : List ℕ) → length bs ≤ length xs → length (over bs xs) ≡ length xs
+length_over bs xs h = length-append bs (drop (length bs) xs) ∙ ap (λ n. length bs + n) (length-drop (length bs) xs) ∙ omega arith
 
 -- where there is room, the frame fits in the buffer
 pub room_holds : (n m : ℕ) → room n m ≡ true → n + 5 ≤ m
