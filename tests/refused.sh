@@ -1,6 +1,7 @@
 #!/bin/sh
 # Programs that must not build. A text of tests/refused becomes a module of a copy of crates/board, or the `Drop` of a struct in place of the
-# derived one, and the compiler must refuse it at a place in it, by the error named here. It compiles, and proves nothing.
+# derived one, and the compiler must refuse it at a place in it, by the error named here; and one line of crates/pack, turned. It compiles, and
+# proves nothing.
 cd "$(dirname "$0")/.."
 copy=$(mktemp -d)
 trap 'rm -rf "$copy"' EXIT
@@ -71,6 +72,12 @@ drops drop_device=board/src/device.rt drop_board=board/src/board.rt
 got=$(build)
 expect move-out-of-place src/device.rt
 expect move-out-of-place src/board.rt
+
+# pack: a frame that is given out for a sign made up, and not by the test that its packet opens again
+restore
+sed -i 's/= check_opens::<C>(.*/= crate::reopened::Opened { unit: () };/' "$copy/crates/pack/src/frames.rt"
+got=$(cd "$copy/crates/pack" && rt try -- data 2>&1)
+expect private-field src/frames.rt
 
 # the crates build as they are, so that it is the texts that are refused
 restore
